@@ -1,0 +1,4 @@
+pub mod Step
+pub mod Runs
+pub mod Half
+pub mod Pair

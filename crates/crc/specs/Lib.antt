@@ -1,0 +1,3 @@
+pub mod Sum
+pub mod Table
+pub mod Transfer
