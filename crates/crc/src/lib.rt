@@ -121,7 +121,7 @@ fn after_address(address_bytes: AddressBytes, address: u32) -> u16
 
 // The sum of a page transfer: it covers the address modulo the array's size, highest byte first, and then the data bytes
 // as sent.
-pub fn page_sum(address_bytes: AddressBytes, size: u32, address: u32, sent: &[u8; 64]) -> u16
+pub fn page_sum(address_bytes: AddressBytes, size: u32, address: u32, sent: &[u8]) -> u16
     ensures { λ r. ⌜ r ≡ page-sum (count-of «address_bytes») size address (now (sent .entry)) ⌝ }
 {
     update(after_address(address_bytes, place(size, address)), sent)

@@ -63,7 +63,8 @@ ends-exactly m r bytes e = (
 )
 
 -- what a short burst makes of a message that ends with its sum does not end with its sum
-pub burst-is-caught : (sent received : List ℕ) → EndsWithSum sent → Burst 16 sent received → EndsWithSum received → ⊥
+pub burst-is-caught : (sent received : List ℕ) → EndsWithSum sent → Burst 16 (message-bits sent) (message-bits received)
+    → EndsWithSum received → ⊥
 unfolding after-message
 burst-is-caught sent received s b r =
     b .differs

@@ -8,7 +8,7 @@ ghost use Prim.Native.Nat.{ℕ};
 ghost use lib.Dec.{eqb, leb};
 ghost use lib.ListN.{length};
 ghost use Rattle.std.specs.Orderings.{Decides};
-ghost use Rattle.crc.specs.Sum.{sum-of};
+ghost use Rattle.crc.specs.Sum.{message-bits, sum-of};
 ghost use Rattle.detect.specs.Damage.{EndsWithSum, Burst};
 
 // Whether the register over a message of at least two bytes is 0.
@@ -24,7 +24,7 @@ fn ends_at_zero(message: &[u8]) -> bool
 pub fn ends_with_sum(message: &[u8]) -> bool
     ensures exact { λ r. ⌜ Decides r (EndsWithSum (now (message .entry))) ⌝ }
     ensures register_is_zero { λ r. ⌜ r ≡ (leb 2 (length (now (message .entry))) && eqb (sum-of (now (message .entry))) 0) ⌝ }
-    ensures short_burst_is_caught { λ r. ⌜ ((sent : List ℕ) → EndsWithSum sent → Burst 16 sent (now (message .entry)) → r ≡ false) ⌝ }
+    ensures short_burst_is_caught { λ r. ⌜ ((sent : List ℕ) → EndsWithSum sent → Burst 16 (message-bits sent) (message-bits (now (message .entry))) → r ≡ false) ⌝ }
 {
     ends_at_zero(message)
 }

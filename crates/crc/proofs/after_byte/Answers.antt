@@ -7,6 +7,6 @@ pub returns : need.returns
 returns c =
     c .after-half-byte-2 .ensures
     ∙ ap₂ (λ r n. after-bits r (bits 4 n))
-        (c .after-half-byte .ensures ∙ ap (λ n. after-bits (c .args .register) (bits 4 n)) (c .halves-high .ensures .high))
-        (c .halves-high .ensures .low)
+    (c .after-half-byte .ensures ∙ ap (λ n. after-bits (c .args .register) (bits 4 n)) (c .halves-high .ensures .high))
+    (c .halves-high .ensures .low)
     ∙ sym (whole-byte (c .args .register) (c .args .byte))
