@@ -1,0 +1,2 @@
+pub mod Strange
+pub mod Unlawful
