@@ -1,0 +1,17 @@
+pub mod Marks
+pub mod Law
+pub mod Pages
+pub mod Data
+pub mod Phases
+pub mod Puts
+pub mod Control
+pub mod Calls
+pub mod Bits
+pub mod Frames
+pub mod Whole
+pub mod Serve
+pub mod Laws
+pub mod Selections
+pub mod Onward
+pub mod Runs
+pub mod Carried

@@ -1,0 +1,12 @@
+pub mod Kind
+pub mod State
+pub mod Opcode
+pub mod Write
+pub mod Frame
+pub mod Byte
+pub mod Release
+pub mod Power
+pub mod Step
+pub mod Machine
+pub mod History
+pub mod Trail
