@@ -41,17 +41,19 @@ module _ (k : Kind) (live : alive k ≡ true) (act : ℕ → Activity) (ev : ℕ
   through : (n p : ℕ) (calls : List Call) (t : List Event) → p + suc n ≡ pages k → state-after k calls .power ≡ On (act p) → P (state-after k calls)
       → trail k calls ≡ t → CarriedOut k (ticks (suc n) calls) (evs p (suc n)) t × Q (state-after k (ticks (suc n) calls))
   through zero p calls t all at here is =
-      let end = last (state-after k calls) p at here (omega arith) in
-      ( record {
+      let end = last (state-after k calls) p at here (omega arith) in (
+        record {
           is-idle = end .0;
           listed = ap₂ onto (listed (state-after k calls) p at) is ∙ ap (λ es. onto es t) (sym (more p zero ∙ ap (λ es. ev p ∷ es) (none (p + 1))));
-        }
-      , end .1 )
+        },
+        end .1,
+      )
   through (suc n) p calls t all at here is =
       let next = on (state-after k calls) p at here (omega arith) in
-      let rest = through n (p + 1) (Tick ∷ calls) (ev p ∷ t) (omega arith) (next .0) (next .1) (ap₂ onto (listed (state-after k calls) p at) is) in
-      ( record { is-idle = rest .0 .is-idle; listed = rest .0 .listed ∙ ap (λ es. onto es t) (sym (more p (suc n))) }
-      , rest .1 )
+      let rest = through n (p + 1) (Tick ∷ calls) (ev p ∷ t) (omega arith) (next .0) (next .1) (ap₂ onto (listed (state-after k calls) p at) is) in (
+        record { is-idle = rest .0 .is-idle; listed = rest .0 .listed ∙ ap (λ es. onto es t) (sym (more p (suc n))) },
+        rest .1,
+      )
 
   pub carried : (calls : List Call) (t : List Event) → state-after k calls .power ≡ On (act 0) → P (state-after k calls) → trail k calls ≡ t
       → CarriedOut k (ticks (pages k) calls) (evs 0 (pages k)) t × Q (state-after k (ticks (pages k) calls))
@@ -78,9 +80,10 @@ module _ (k : Kind) (live : alive k ≡ true) where
       carried k live Storing keep keeps (λ _. Unit {0}) (λ s. s .written ≡ false) (λ p. refl) (λ p n. refl)
       (λ s p h. ap (λ (o : Out). o .events) (tick-out s (Storing p) h))
       (λ s p h _ lt. (ap (λ (o : Out). o .state .power) (tick-out s (Storing p) h) ∙ goes-on Storing p lt, tt))
-      (λ s p h _ end.
-          ( ap (λ (o : Out). o .state .power) (tick-out s (Storing p) h) ∙ ends Storing p end
-          , ap (λ (o : Out). o .state .written) (tick-out s (Storing p) h) ∙ and-left (ltb (p + 1) (pages k)) (s .written) (le-ltb _ _ (omega arith)) ))
+      (λ s p h _ end. (
+        ap (λ (o : Out). o .state .power) (tick-out s (Storing p) h) ∙ ends Storing p end,
+        ap (λ (o : Out). o .state .written) (tick-out s (Storing p) h) ∙ and-left (ltb (p + 1) (pages k)) (s .written) (le-ltb _ _ (omega arith)),
+      ))
       calls t at tt is
 
   -- a state that a recalling or waking tick leaves but for its power
@@ -89,12 +92,14 @@ module _ (k : Kind) (live : alive k ≡ true) where
   recall-carried calls t at clear is =
       carried k live Recalling recall recalls (λ s. s .written ≡ false) (λ s. s .written ≡ false) (λ p. refl) (λ p n. refl)
       (λ s p h. ap (λ (o : Out). o .events) (tick-out s (Recalling p) h))
-      (λ s p h w lt.
-          ( ap (λ (o : Out). o .state .power) (tick-out s (Recalling p) h) ∙ goes-on Recalling p lt
-          , ap (λ (o : Out). o .state .written) (tick-out s (Recalling p) h) ∙ w ))
-      (λ s p h w end.
-          ( ap (λ (o : Out). o .state .power) (tick-out s (Recalling p) h) ∙ ends Recalling p end
-          , ap (λ (o : Out). o .state .written) (tick-out s (Recalling p) h) ∙ w ))
+      (λ s p h w lt. (
+        ap (λ (o : Out). o .state .power) (tick-out s (Recalling p) h) ∙ goes-on Recalling p lt,
+        ap (λ (o : Out). o .state .written) (tick-out s (Recalling p) h) ∙ w,
+      ))
+      (λ s p h w end. (
+        ap (λ (o : Out). o .state .power) (tick-out s (Recalling p) h) ∙ ends Recalling p end,
+        ap (λ (o : Out). o .state .written) (tick-out s (Recalling p) h) ∙ w,
+      ))
       calls t at clear is
 
   -- latch and marks are clear
@@ -102,10 +107,11 @@ module _ (k : Kind) (live : alive k ≡ true) where
   Clear s = (s .latch ≡ false) × (s .failed ≡ false) × (s .written ≡ false)
 
   clear-on : (s : State) (p : ℕ) → s .power ≡ On (Waking p) → Clear s → Clear (step k s Tick .state)
-  clear-on s p h c =
-      ( ap (λ (o : Out). o .state .latch) (tick-out s (Waking p) h) ∙ c .0
-      , ap (λ (o : Out). o .state .failed) (tick-out s (Waking p) h) ∙ c .1
-      , ap (λ (o : Out). o .state .written) (tick-out s (Waking p) h) ∙ c .2 )
+  clear-on s p h c = (
+    ap (λ (o : Out). o .state .latch) (tick-out s (Waking p) h) ∙ c .0,
+    ap (λ (o : Out). o .state .failed) (tick-out s (Waking p) h) ∙ c .1,
+    ap (λ (o : Out). o .state .written) (tick-out s (Waking p) h) ∙ c .2,
+  )
 
   waking-carried : (calls : List Call) (t : List Event) → state-after k calls .power ≡ On (Waking 0) → Clear (state-after k calls) → trail k calls ≡ t
       → CarriedOut k (ticks (pages k) calls) (recalls 0 (pages k)) t × Clear (state-after k (ticks (pages k) calls))
@@ -119,19 +125,19 @@ module _ (k : Kind) (live : alive k ≡ true) where
 -- a command that is no write, released
 command-done : (k : Kind) (calls : List Call) (opc : ℕ) (i : Instruction) → Commanded k calls opc i → is-write i ≡ false → begin i ≡ command i false
     → (after k (Byte opc false ∷ Select ∷ calls) (Release 0) ≡ ended-out (done (effect i (with-selection unselected (state-after k calls)))))
-        × (trail k (Byte opc false ∷ Select ∷ calls) ≡ trail k calls)
+    × (trail k (Byte opc false ∷ Select ∷ calls) ≡ trail k calls)
 command-done k calls opc i g reads begins =
     let s = state-after k calls in
     let t = trail k calls in
     let first = selects k (g .is-alive) s (g .is-idle) (g .is-free) in
     let out : step k (in-phase s opcode) (Byte opc false) ≡ heard-out s (quiet (command i false)) =
-            hears k (g .is-alive) s (g .is-idle) opcode opc
-            ∙ ap (λ o. heard-out s (quiet (opened Idle (s .latch) o))) (g .names)
-            ∙ ap (λ p. heard-out s (quiet p)) (cond-false (is-write i && not (s .latch)) _ _ (and-left (is-write i) _ reads) ∙ begins) in
+    hears k (g .is-alive) s (g .is-idle) opcode opc
+    ∙ ap (λ o. heard-out s (quiet (opened Idle (s .latch) o))) (g .names)
+    ∙ ap (λ p. heard-out s (quiet p)) (cond-false (is-write i && not (s .latch)) _ _ (and-left (is-write i) _ reads) ∙ begins) in
     let now = one-more k (Select ∷ calls) (in-phase s opcode) (in-phase s (command i false)) t t opc
-            (record { state = ap (λ (o : Out). o .state) first; events = ap (λ (o : Out). onto (o .events) t) first })
-            (ap (λ (o : Out). o .state) out) (ap (λ (o : Out). onto (o .events) t) out) in
-    ( ap (λ x. step k x (Release 0)) (now .state) ∙ step-on k (in-phase s (command i false)) Idle (Release 0) (g .is-alive) (g .is-idle), now .events )
+    (record { state = ap (λ (o : Out). o .state) first; events = ap (λ (o : Out). onto (o .events) t) first })
+    (ap (λ (o : Out). o .state) out) (ap (λ (o : Out). onto (o .events) t) out) in
+    (ap (λ x. step k x (Release 0)) (now .state) ∙ step-on k (in-phase s (command i false)) Idle (Release 0) (g .is-alive) (g .is-idle), now .events)
 
 pub store-keeps : StoreKeepsEveryPage
 store-keeps k calls opc g =
@@ -153,8 +159,8 @@ pub waking-recalls : WakingRecallsEveryPage
 waking-recalls k calls live off =
     let up = wakes k (state-after k calls) live off in
     let all = waking-carried k live (PowerUp ∷ calls) (trail k calls) (ap (λ (o : Out). o .state .power) up)
-            (ap (λ (o : Out). o .state .latch) up, ap (λ (o : Out). o .state .failed) up, ap (λ (o : Out). o .state .written) up)
-            (ap (λ (o : Out). onto (o .events) (trail k calls)) up) in
+    (ap (λ (o : Out). o .state .latch) up, ap (λ (o : Out). o .state .failed) up, ap (λ (o : Out). o .state .written) up)
+    (ap (λ (o : Out). onto (o .events) (trail k calls)) up) in
     (all .0, all .1 .0, all .1 .1, all .1 .2)
 
 -- ---- the latch over a whole selection
@@ -284,8 +290,8 @@ module _ (k : Kind) (live : alive k ≡ true) where
   release-disables : (s : State) (clocks : ℕ) → InWrite s → clocks ≤ 7 → step k s (Release clocks) .state .latch ≡ false
   release-disables s clocks w few =
       ap (λ (o : Out). o .state .latch)
-          (step-on k s (w .activity) (Release clocks) live (w .is-on) ∙ ap (λ x. on-release k s x clocks) (w .is-selected)
-          ∙ cond-false (ltb 7 clocks) _ _ (le-ltb 7 clocks few))
+      (step-on k s (w .activity) (Release clocks) live (w .is-on) ∙ ap (λ x. on-release k s x clocks) (w .is-selected)
+      ∙ cond-false (ltb 7 clocks) _ _ (le-ltb 7 clocks few))
       ∙ ended-disabled k (with-selection unselected s) (w .phase) clocks (w .writes)
 
 pub release-of-a-write : ReleaseOfAWriteClearsTheLatch
@@ -293,10 +299,10 @@ release-of-a-write k calls y live at free opc i names writes inside h clocks few
     let s = state-after k calls in
     let first : state-after k (Select ∷ calls) ≡ in-phase s opcode = ap (λ (o : Out). o .state) (step-on k s y Select live at ∙ ap (on-select s) free) in
     let out : step k (in-phase s opcode) (Byte opc false) ≡ heard-out s (quiet (opened y (s .latch) (Some i))) =
-            step-on k (in-phase s opcode) y (Byte opc false) live at ∙ ap (λ o. heard-out s (quiet (opened y (s .latch) o))) names in
+    step-on k (in-phase s opcode) y (Byte opc false) live at ∙ ap (λ o. heard-out s (quiet (opened y (s .latch) o))) names in
     let begun : InWrite (in-phase s (opened y (s .latch) (Some i))) =
-            record { activity = y; phase = opened y (s .latch) (Some i); is-on = at; is-selected = refl; writes = opened-writing y (s .latch) i writes } in
+    record { activity = y; phase = opened y (s .latch) (Some i); is-on = at; is-selected = refl; writes = opened-writing y (s .latch) i writes } in
     release-disables k live _ clocks
     (inside-in-write k live (Byte opc false ∷ Select ∷ calls)
-        (subst InWrite (sym (ap (λ x. step k x (Byte opc false) .state) first ∙ ap (λ (o : Out). o .state) out)) begun) inside h)
+    (subst InWrite (sym (ap (λ x. step k x (Byte opc false) .state) first ∙ ap (λ (o : Out). o .state) out)) begun) inside h)
     few

@@ -27,9 +27,10 @@ use Rattle.promises.proofs.Frames.{step-on}
 -- ---- rules easily got wrong
 
 pub store-goes-on : PowerStoreOffDoesNotStopAStore
-store-goes-on k s p live on =
-    ( ap (λ (o : Out). o .events) (step-on k s (Storing p) Tick live on)
-    , ap (λ (o : Out). o .events) (step-on k s (Storing p) (Cut true) live on) )
+store-goes-on k s p live on = (
+  ap (λ (o : Out). o .events) (step-on k s (Storing p) Tick live on),
+  ap (λ (o : Out). o .events) (step-on k s (Storing p) (Cut true) live on),
+)
 
 -- what a cut keeps
 kept-from : (p q n : ℕ) → Keeps p (keeps q n) → q ≤ p
@@ -75,9 +76,10 @@ no-other-cut-keeps k s charged p =
     (λ _. live-cut-allowed k s (s .power) refl charged p) (λ _ h. absurd h)
 
 pub recall-goes-on : ProtectionDoesNotHoldBackARecall
-recall-goes-on k s p live =
-    ( (λ on. ap (λ (o : Out). o .events) (step-on k s (Recalling p) Tick live on))
-    , (λ on. ap (λ (o : Out). o .events) (step-on k s (Waking p) Tick live on)) )
+recall-goes-on k s p live = (
+  (λ on. ap (λ (o : Out). o .events) (step-on k s (Recalling p) Tick live on)),
+  (λ on. ap (λ (o : Out). o .events) (step-on k s (Waking p) Tick live on)),
+)
 
 module _ (k : Kind) (s : State) where
   abbrev Same : Out → Type 0
@@ -101,9 +103,10 @@ module _ (k : Kind) (s : State) where
 
 pub fail-mark-stays : ReadingStatusDoesNotClearTheFailMark
 unfolding step
-fail-mark-stays k s reads =
-    ( (λ b held. cond-both (alive k) _ _ (Same k s) (λ _. live-byte-leaves k s reads (s .power) b held) (λ _. refl))
-    , (λ clocks. cond-both (alive k) _ _ (Same k s) (λ _. live-release-leaves k s reads (s .power) clocks) (λ _. refl)) )
+fail-mark-stays k s reads = (
+  (λ b held. cond-both (alive k) _ _ (Same k s) (λ _. live-byte-leaves k s reads (s .power) b held) (λ _. refl)),
+  (λ clocks. cond-both (alive k) _ _ (Same k s) (λ _. live-release-leaves k s reads (s .power) clocks) (λ _. refl)),
+)
 
 -- ---- one promised byte
 
@@ -143,10 +146,13 @@ promised-is-one lasting first a t b c (inr n) (inl m) = absurd (n .0 (m .behind)
 promised-is-one lasting first a t b c (inr n) (inr o) = n .1 ∙ sym (o .1)
 
 pub one-promised-byte : EachAddressHasOnePromisedByte
-one-promised-byte lasting first a t =
-    ( promised lasting first a t
-    , ( promised-is lasting first a t
-      , λ c p. promised-is-one lasting first a t c _ p (promised-is lasting first a t) ) )
+one-promised-byte lasting first a t = (
+  promised lasting first a t,
+  (
+    promised-is lasting first a t,
+    λ c p. promised-is-one lasting first a t c _ p (promised-is lasting first a t),
+  ),
+)
 
 -- ---- one current byte
 

@@ -74,14 +74,14 @@ module _ (k : Kind) (R : ℕ) where
   puts-append [] ys a = ap (λ n. puts-onward k R n ys) (sym (add-zero a))
   puts-append (x ∷ xs) ys a =
       let rest : puts-onward k R (a + 1) (xs ++ ys) ≡ puts-onward k R (a + 1) xs ++ puts-onward k R (a + suc (length xs)) ys =
-              puts-append xs ys (a + 1) ∙ ap (λ n. puts-onward k R (a + 1) xs ++ puts-onward k R n ys) (omega arith) in
+      puts-append xs ys (a + 1) ∙ ap (λ n. puts-onward k R (a + 1) xs ++ puts-onward k R n ys) (omega arith) in
       put-or-not (protected k R (a % k .size)) (put (a % k .size) x) _ _ _ rest
 
   some-append : (xs ys : List ℕ) (a : ℕ) → some-protected k R a (xs ++ ys) ≡ (some-protected k R a xs || some-protected k R (a + length xs) ys)
   some-append [] ys a = ap (λ n. some-protected k R n ys) (sym (add-zero a))
   some-append (x ∷ xs) ys a =
       ap (λ c. protected k R (a % k .size) || c)
-          (some-append xs ys (a + 1) ∙ ap (λ n. some-protected k R (a + 1) xs || some-protected k R n ys) (omega arith))
+      (some-append xs ys (a + 1) ∙ ap (λ n. some-protected k R (a + 1) xs || some-protected k R n ys) (omega arith))
       ∙ or-assoc (protected k R (a % k .size)) _ _
 
 -- the answer, by whether some byte was protected
@@ -93,7 +93,7 @@ answered false = refl
 
 direct-ways : (c p : Bool) (x y b : ℕ)
     → (cond c (quiet (writing-direct y true true)) (putting (writing-direct y p true) (put x b ∷ [])) .phase ≡ writing-direct y (p || (c || false)) true)
-        × (cond c (quiet (writing-direct y true true)) (putting (writing-direct y p true) (put x b ∷ [])) .events ≡ cond c [] (put x b ∷ []))
+    × (cond c (quiet (writing-direct y true true)) (putting (writing-direct y p true) (put x b ∷ [])) .events ≡ cond c [] (put x b ∷ []))
 direct-ways true true x y b = (refl, refl)
 direct-ways true false x y b = (refl, refl)
 direct-ways false true x y b = (refl, refl)
@@ -108,13 +108,14 @@ module _ (k : Kind) (live : alive k ≡ true) (s : State) (idle : s .power ≡ O
   puts-more : (done es : List Event) (ph ph′ : Phase) (b : ℕ)
       → heard k (put-so-far done ph) Idle ph b .phase ≡ ph′ → heard k (put-so-far done ph) Idle ph b .events ≡ es
       → (step k (put-so-far done ph) (Byte b false) .state ≡ put-so-far (done ++ es) ph′)
-          × (onto (step k (put-so-far done ph) (Byte b false) .events) (onto done t) ≡ onto (done ++ es) t)
+      × (onto (step k (put-so-far done ph) (Byte b false) .events) (onto done t) ≡ onto (done ++ es) t)
   puts-more done es ph ph′ b phase events =
-      let out = hears k live (with-written (marked done (s .written)) s) idle ph b in
-      ( ap (λ (o : Out). o .state) out
-        ∙ ap₂ (λ p fs. in-phase (with-written (marked fs (marked done (s .written))) s) p) phase events
-        ∙ ap (λ w. in-phase (with-written w s) ph′) (marked-append done es (s .written))
-      , ap (λ (o : Out). onto (o .events) (onto done t)) out ∙ ap (λ fs. onto fs (onto done t)) events ∙ sym (onto-append done es t) )
+      let out = hears k live (with-written (marked done (s .written)) s) idle ph b in (
+        ap (λ (o : Out). o .state) out
+            ∙ ap₂ (λ p fs. in-phase (with-written (marked fs (marked done (s .written))) s) p) phase events
+            ∙ ap (λ w. in-phase (with-written w s) ph′) (marked-append done es (s .written)),
+        ap (λ (o : Out). onto (o .events) (onto done t)) out ∙ ap (λ fs. onto fs (onto done t)) events ∙ sym (onto-append done es t),
+      )
 
   abbrev direct-phase : List ℕ → Phase
   direct-phase earlier =
@@ -125,21 +126,21 @@ module _ (k : Kind) (live : alive k ≡ true) (s : State) (idle : s .power ≡ O
 
   direct-heard : (es : List Event) (earlier : List ℕ) (b : ℕ)
       → (heard k (put-so-far es (direct-phase earlier)) Idle (direct-phase earlier) b .phase ≡ direct-phase (earlier ++ (b ∷ [])))
-          × (heard k (put-so-far es (direct-phase earlier)) Idle (direct-phase earlier) b .events ≡ puts-onward k (s .status-bits) (a + length earlier) (b ∷ []))
+      × (heard k (put-so-far es (direct-phase earlier)) Idle (direct-phase earlier) b .events ≡ puts-onward k (s .status-bits) (a + length earlier) (b ∷ []))
   direct-heard es earlier b =
       let x = (a + length earlier) % k .size in
       let R = s .status-bits in
       let on : next k x ≡ (a + length (earlier ++ (b ∷ []))) % k .size =
-              mod-add-mod (a + length earlier) (k .size) 1 ∙ ap (λ n. n % k .size) (sym (one-longer a earlier b)) in
+      mod-add-mod (a + length earlier) (k .size) 1 ∙ ap (λ n. n % k .size) (sym (one-longer a earlier b)) in
       let shut : (some-protected k R a earlier || (protected k R x || false)) ≡ some-protected k R a (earlier ++ (b ∷ [])) =
-              sym (some-append k R earlier (b ∷ []) a) in
+      sym (some-append k R earlier (b ∷ []) a) in
       let is = direct-ways (protected k R x) (some-protected k R a earlier) x (next k x) b in
-      ( is .0 ∙ ap₂ (λ n c. writing-direct n c true) on shut ∙ ap (λ any. writing-direct ((a + length (earlier ++ (b ∷ []))) % k .size) (some-protected k R a (earlier ++ (b ∷ []))) any) (has-pushed earlier b), is .1 )
+      (is .0 ∙ ap₂ (λ n c. writing-direct n c true) on shut ∙ ap (λ any. writing-direct ((a + length (earlier ++ (b ∷ []))) % k .size) (some-protected k R a (earlier ++ (b ∷ []))) any) (has-pushed earlier b), is .1)
 
   direct-out : (earlier : List ℕ) (b : ℕ)
       → (step k (direct-at earlier) (Byte b false) .state ≡ direct-at (earlier ++ (b ∷ [])))
-          × (onto (step k (direct-at earlier) (Byte b false) .events) (onto (puts-onward k (s .status-bits) a earlier) t)
-              ≡ onto (puts-onward k (s .status-bits) a (earlier ++ (b ∷ []))) t)
+      × (onto (step k (direct-at earlier) (Byte b false) .events) (onto (puts-onward k (s .status-bits) a earlier) t)
+      ≡ onto (puts-onward k (s .status-bits) a (earlier ++ (b ∷ []))) t)
   direct-out earlier b =
       let done = puts-onward k (s .status-bits) a earlier in
       let h = direct-heard done earlier b in
@@ -161,14 +162,14 @@ direct-goes-on k calls opc addr bytes w direct =
     let R = s .status-bits in
     let at = direct-at k (g .is-alive) s (g .is-idle) t a in
     let begun : Now k (sent addr (Byte opc false ∷ Select ∷ calls)) (at []) t =
-            subst (λ p. Now k (sent addr (Byte opc false ∷ Select ∷ calls)) (in-phase s p) t)
-            (cond-true (k .facts .direct) _ _ direct ∙ ap (λ n. writing-direct n false false) (sym (ap (λ n. n % k .size) (add-zero a) ∙ mod-mod _ (k .size))))
-            (begun-at k calls Write opc addr g (ap not (w .is-enabled)) refl) in
+    subst (λ p. Now k (sent addr (Byte opc false ∷ Select ∷ calls)) (in-phase s p) t)
+    (cond-true (k .facts .direct) _ _ direct ∙ ap (λ n. writing-direct n false false) (sym (ap (λ n. n % k .size) (add-zero a) ∙ mod-mod _ (k .size))))
+    (begun-at k calls Write opc addr g (ap not (w .is-enabled)) refl) in
     let out = direct-out k (g .is-alive) s (g .is-idle) t a in
     let now : Now k (selection opc addr bytes calls) (at bytes) (onto (puts-onward k R a bytes) t) =
-            subst (λ cs. Now k cs (at bytes) (onto (puts-onward k R a bytes) t)) (sym (sent-more addr bytes (Byte opc false ∷ Select ∷ calls)))
-            (followed k at (λ xs. onto (puts-onward k R a xs) t) (λ xs b. out xs b .0) (λ xs b. out xs b .1)
-                bytes [] (sent addr (Byte opc false ∷ Select ∷ calls)) begun) in
+    subst (λ cs. Now k cs (at bytes) (onto (puts-onward k R a bytes) t)) (sym (sent-more addr bytes (Byte opc false ∷ Select ∷ calls)))
+    (followed k at (λ xs. onto (puts-onward k R a xs) t) (λ xs b. out xs b .0) (λ xs b. out xs b .1)
+    bytes [] (sent addr (Byte opc false ∷ Select ∷ calls)) begun) in
     let ends = ap (λ x. step k x (Release 0)) (now .state) ∙ direct-release k (g .is-alive) s (g .is-idle) t a bytes (w .has-data) in
     record {
       answer = ap (λ (o : Out). o .answer) ends ∙ answered (some-protected k R a bytes);
@@ -185,7 +186,7 @@ module _ (k : Kind) (law : Lawful (k .facts)) (live : alive k ≡ true) (R : ℕ
       let big = alive-is k live .is-256-or-more in
       let size : k .size ≡ pages k * 64 = omega (arith, whole) in
       let is : x % k .size ≡ (x / 64 % pages k) * 64 + x % 64 =
-              ap (λ n. x % n) size ∙ mod-mul x (omega (arith, big)) (omega arith) in
+      ap (λ n. x % n) size ∙ mod-mul x (omega (arith, big)) (omega arith) in
       (omega arith, omega arith)
 
   in-page : (x : ℕ) → protected k R (x % k .size) ≡ page-protected k R (x / 64 % pages k)
@@ -208,9 +209,9 @@ module _ (k : Kind) (law : Lawful (k .facts)) (live : alive k ≡ true) (R : ℕ
   open-page x (b ∷ (c ∷ bytes)) room free =
       let same : (x + 1) / 64 ≡ x / 64 = omega arith in
       let rest : placed ((x + 1) / 64 % pages k) ((x + 1) % 64) (c ∷ bytes) ≡ puts-onward k R (x + 1) (c ∷ bytes) =
-              open-page (x + 1) (c ∷ bytes) (omega arith) (ap (λ n. page-protected k R (n % pages k)) same ∙ free) in
+      open-page (x + 1) (c ∷ bytes) (omega arith) (ap (λ n. page-protected k R (n % pages k)) same ∙ free) in
       let tail : placed (x / 64 % pages k) (x % 64 + 1) (c ∷ bytes) ≡ puts-onward k R (x + 1) (c ∷ bytes) =
-              ap₂ (λ n o. placed (n % pages k) o (c ∷ bytes)) (sym same) (omega arith) ∙ rest in
+      ap₂ (λ n o. placed (n % pages k) o (c ∷ bytes)) (sym same) (omega arith) ∙ rest in
       ap₂ (λ n es. put n b ∷ es) (let e = spot x .0 in omega arith) tail
       ∙ sym (cond-false (protected k R (x % k .size)) _ _ (in-page x ∙ free))
 
@@ -281,7 +282,7 @@ module _ (k : Kind) (law : Lawful (k .facts)) (live : alive k ≡ true) (s : Sta
       let fits : d ≤ m = omega arith in
       let fills : fills-page (x % 64) (drop d earlier) ≡ true = eq-eqb _ 63 (omega arith) in
       let all : take d earlier ++ (drop d earlier ++ (b ∷ [])) ≡ earlier ++ (b ∷ []) =
-              sym (append-assoc (take d earlier) (drop d earlier) (b ∷ [])) ∙ ap (λ xs. xs ++ (b ∷ [])) (take-append-drop d earlier) in
+      sym (append-assoc (take d earlier) (drop d earlier) (b ∷ [])) ∙ ap (λ xs. xs ++ (b ∷ [])) (take-append-drop d earlier) in
       let end : gone (length (earlier ++ (b ∷ []))) ≡ m + 1 = omega arith in
       let taken : take (gone (length (earlier ++ (b ∷ [])))) (earlier ++ (b ∷ [])) ≡ earlier ++ (b ∷ []) = take-all _ (earlier ++ (b ∷ [])) (omega arith) in
       let room : x % 64 + length (drop d earlier ++ (b ∷ [])) ≤ 64 = (let e = length-push (drop d earlier) b in omega arith) in
@@ -289,21 +290,21 @@ module _ (k : Kind) (law : Lawful (k .facts)) (live : alive k ≡ true) (s : Sta
       let page = x / 64 % pages k in
       let few : is-full (drop d earlier) ≡ false = lt-leb _ _ (omega arith) in
       let heard-is = cond-true (k .facts .runs-on R && fills-page (x % 64) (drop d earlier)) _ _ (ap₂ _&&_ runs fills)
-              ∙ ap₂ (λ f h. putting (writing-paged (next-page k page) 0 [] (some-protected k R a (take d earlier) || page-protected k R page) true) (accepted k R page f h))
-                  (unfull-first (x % 64) (drop d earlier) few) (unfull-latest (drop d earlier) b few) in
+      ∙ ap₂ (λ f h. putting (writing-paged (next-page k page) 0 [] (some-protected k R a (take d earlier) || page-protected k R page) true) (accepted k R page f h))
+      (unfull-first (x % 64) (drop d earlier) few) (unfull-latest (drop d earlier) b few) in
       record {
         phase = ap (λ (h : Heard). h .phase) heard-is
             ∙ same-paged _ _ _ _ _ _ _ _ _ _
-                (mod-add-mod (x / 64) (pages k) 1 ∙ ap (λ n. n % pages k) (omega arith)) (omega arith)
-                (sym (drop-all _ (earlier ++ (b ∷ [])) (omega arith)))
-                (ap (λ p. some-protected k R a (take d earlier) || p)
-                    (sym (page-some-pushed k law live R within paged x (drop d earlier) b room) ∙ ap (λ n. some-protected k R (a + n) (drop d earlier ++ (b ∷ []))) (sym long))
-                    ∙ sym (some-append k R (take d earlier) (drop d earlier ++ (b ∷ [])) a)
-                    ∙ ap (some-protected k R a) (all ∙ sym taken))
-                (has-pushed earlier b);
+            (mod-add-mod (x / 64) (pages k) 1 ∙ ap (λ n. n % pages k) (omega arith)) (omega arith)
+            (sym (drop-all _ (earlier ++ (b ∷ [])) (omega arith)))
+            (ap (λ p. some-protected k R a (take d earlier) || p)
+            (sym (page-some-pushed k law live R within paged x (drop d earlier) b room) ∙ ap (λ n. some-protected k R (a + n) (drop d earlier ++ (b ∷ []))) (sym long))
+            ∙ sym (some-append k R (take d earlier) (drop d earlier ++ (b ∷ [])) a)
+            ∙ ap (some-protected k R a) (all ∙ sym taken))
+            (has-pushed earlier b);
         puts = ap (λ (h : Heard). run-puts earlier ++ h .events) heard-is
             ∙ ap (λ es′. run-puts earlier ++ es′)
-                (accepted-onward k law live R within paged x (drop d earlier ++ (b ∷ [])) room ∙ ap (λ n. puts-onward k R (a + n) (drop d earlier ++ (b ∷ []))) (sym long))
+            (accepted-onward k law live R within paged x (drop d earlier ++ (b ∷ [])) room ∙ ap (λ n. puts-onward k R (a + n) (drop d earlier ++ (b ∷ []))) (sym long))
             ∙ sym (puts-append k R (take d earlier) (drop d earlier ++ (b ∷ [])) a)
             ∙ ap (puts-onward k R a) (all ∙ sym taken);
       }
@@ -321,17 +322,17 @@ module _ (k : Kind) (law : Lawful (k .facts)) (live : alive k ≡ true) (s : Sta
       let fills : fills-page (x % 64) (drop d earlier) ≡ false = ne-eqb _ 63 (λ is. other (omega arith)) in
       let same : d ≡ gone (length (earlier ++ (b ∷ []))) = omega arith in
       let taken : take d earlier ≡ take (gone (length (earlier ++ (b ∷ [])))) (earlier ++ (b ∷ [])) =
-              sym (take-append-le d earlier (b ∷ []) fits) ∙ ap (λ n. take n (earlier ++ (b ∷ []))) same in
+      sym (take-append-le d earlier (b ∷ []) fits) ∙ ap (λ n. take n (earlier ++ (b ∷ []))) same in
       let few : is-full (drop d earlier) ≡ false = lt-leb _ _ (omega arith) in
       let heard-is = cond-false (k .facts .runs-on R && fills-page (x % 64) (drop d earlier)) _ _ (ap₂ _&&_ runs fills)
-              ∙ ap₂ (λ f h. quiet (writing-paged (x / 64 % pages k) f h (some-protected k R a (take d earlier)) true))
-                  (unfull-first (x % 64) (drop d earlier) few) (unfull-latest (drop d earlier) b few) in
+      ∙ ap₂ (λ f h. quiet (writing-paged (x / 64 % pages k) f h (some-protected k R a (take d earlier)) true))
+      (unfull-first (x % 64) (drop d earlier) few) (unfull-latest (drop d earlier) b few) in
       record {
         phase = ap (λ (h : Heard). h .phase) heard-is
             ∙ same-paged _ _ _ _ _ _ _ _ _ _
-                (ap (λ n. (a + n) / 64 % pages k) same) (ap (λ n. (a + n) % 64) same)
-                (sym (drop-append-le d earlier (b ∷ []) fits) ∙ ap (λ n. drop n (earlier ++ (b ∷ []))) same)
-                (ap (some-protected k R a) taken) (has-pushed earlier b);
+            (ap (λ n. (a + n) / 64 % pages k) same) (ap (λ n. (a + n) % 64) same)
+            (sym (drop-append-le d earlier (b ∷ []) fits) ∙ ap (λ n. drop n (earlier ++ (b ∷ []))) same)
+            (ap (some-protected k R a) taken) (has-pushed earlier b);
         puts = ap (λ (h : Heard). run-puts earlier ++ h .events) heard-is ∙ append-nil (run-puts earlier) ∙ ap (puts-onward k R a) taken;
       }
 
@@ -340,10 +341,10 @@ module _ (k : Kind) (law : Lawful (k .facts)) (live : alive k ≡ true) (s : Sta
 
   run-out : (earlier : List ℕ) (b : ℕ)
       → (step k (run-at earlier) (Byte b false) .state ≡ run-at (earlier ++ (b ∷ [])))
-          × (onto (step k (run-at earlier) (Byte b false) .events) (onto (run-puts earlier) t) ≡ onto (run-puts (earlier ++ (b ∷ []))) t)
+      × (onto (step k (run-at earlier) (Byte b false) .events) (onto (run-puts earlier) t) ≡ onto (run-puts (earlier ++ (b ∷ []))) t)
   run-out earlier b =
       let turned : Turned (run-puts earlier) earlier b =
-              elim (cases-eq ((a % 64 + length earlier) % 64) 63) [ inl last ↦ turns (run-puts earlier) earlier b last | inr other ↦ stays (run-puts earlier) earlier b other ] in
+      elim (cases-eq ((a % 64 + length earlier) % 64) 63) [ inl last ↦ turns (run-puts earlier) earlier b last | inr other ↦ stays (run-puts earlier) earlier b other ] in
       let more = puts-more k live s idle t a (run-puts earlier) _ (run-phase earlier) (run-phase (earlier ++ (b ∷ []))) b (turned .phase) refl in
       (more .0 ∙ ap (λ es. put-so-far k live s idle t a es (run-phase (earlier ++ (b ∷ [])))) (turned .puts), more .1 ∙ ap (λ es. onto es t) (turned .puts))
 
@@ -352,8 +353,8 @@ module _ (k : Kind) (law : Lawful (k .facts)) (live : alive k ≡ true) (s : Sta
 
   run-release : (bytes : List ℕ) → 1 ≤ length bytes
       → step k (run-at bytes) (Release 0)
-          ≡ ended-out (paged-ended k (run-at bytes) ((a + gone (length bytes)) / 64 % pages k) ((a + gone (length bytes)) % 64) (left bytes)
-              (some-protected k (s .status-bits) a (take (gone (length bytes)) bytes)))
+      ≡ ended-out (paged-ended k (run-at bytes) ((a + gone (length bytes)) / 64 % pages k) ((a + gone (length bytes)) % 64) (left bytes)
+      (some-protected k (s .status-bits) a (take (gone (length bytes)) bytes)))
   run-release [] some = absurd (let n : ⊥ = omega arith in n)
   run-release (b ∷ bytes) some = step-on k _ Idle (Release 0) live idle
 
@@ -369,13 +370,13 @@ module _ (k : Kind) (law : Lawful (k .facts)) (live : alive k ≡ true) (s : Sta
         ≡ puts-onward k (s .status-bits) a bytes
     run-all =
         ap (λ es. run-puts bytes ++ es)
-            (accepted-onward k law live (s .status-bits) within paged _ (left bytes) room
-            ∙ ap (λ n. puts-onward k (s .status-bits) (a + n) (left bytes)) (sym (length-take-le _ bytes fits)))
+        (accepted-onward k law live (s .status-bits) within paged _ (left bytes) room
+        ∙ ap (λ n. puts-onward k (s .status-bits) (a + n) (left bytes)) (sym (length-take-le _ bytes fits)))
         ∙ sym (puts-append k (s .status-bits) (take (gone (length bytes)) bytes) (left bytes) a)
         ∙ ap (puts-onward k (s .status-bits) a) (take-append-drop _ bytes)
 
     run-some : cond (has-bytes (left bytes)) (some-protected k (s .status-bits) a (take (gone (length bytes)) bytes) || page-protected k (s .status-bits) ((a + gone (length bytes)) / 64 % pages k))
-            (some-protected k (s .status-bits) a (take (gone (length bytes)) bytes))
+        (some-protected k (s .status-bits) a (take (gone (length bytes)) bytes))
         ≡ some-protected k (s .status-bits) a bytes
     run-some =
         page-some-held k law live (s .status-bits) within paged (a + gone (length bytes)) (left bytes) _ room
@@ -395,22 +396,22 @@ paged-goes-on k calls opc addr bytes w paged runs =
     let puts = run-puts k (g .is-lawful) (g .is-alive) s within paged (g .is-idle) runs t a in
     let none : gone k (g .is-lawful) (g .is-alive) s within paged (g .is-idle) runs t a 0 ≡ 0 = omega arith in
     let here : a / 64 ≡ a / 64 % pages k =
-            ap (λ n. n / 64) (sym (mod-mod _ (k .size))) ∙ spot k (g .is-lawful) (g .is-alive) R within paged a .1 in
+    ap (λ n. n / 64) (sym (mod-mod _ (k .size))) ∙ spot k (g .is-lawful) (g .is-alive) R within paged a .1 in
     let first : Now k (sent addr (Byte opc false ∷ Select ∷ calls)) (in-phase s (writing-paged ((a + 0) / 64 % pages k) ((a + 0) % 64) [] false false)) t =
-            subst (λ p. Now k (sent addr (Byte opc false ∷ Select ∷ calls)) (in-phase s p) t)
-            (cond-false (k .facts .direct) _ _ paged
-            ∙ ap₂ (λ p o. writing-paged p o [] false false) (here ∙ ap (λ n. n / 64 % pages k) (sym (add-zero a))) (ap (λ n. n % 64) (sym (add-zero a))))
-            (begun-at k calls Write opc addr g (ap not (w .is-enabled)) refl) in
+    subst (λ p. Now k (sent addr (Byte opc false ∷ Select ∷ calls)) (in-phase s p) t)
+    (cond-false (k .facts .direct) _ _ paged
+    ∙ ap₂ (λ p o. writing-paged p o [] false false) (here ∙ ap (λ n. n / 64 % pages k) (sym (add-zero a))) (ap (λ n. n % 64) (sym (add-zero a))))
+    (begun-at k calls Write opc addr g (ap not (w .is-enabled)) refl) in
     let begun : Now k (sent addr (Byte opc false ∷ Select ∷ calls)) (at []) (onto (puts []) t) =
-            subst (λ d. Now k (sent addr (Byte opc false ∷ Select ∷ calls))
-                (put-so-far k (g .is-alive) s (g .is-idle) t a (puts-onward k R a (take d []))
-                    (writing-paged ((a + d) / 64 % pages k) ((a + d) % 64) (drop d []) (some-protected k R a (take d [])) false))
-                (onto (puts-onward k R a (take d [])) t)) (sym none) first in
+    subst (λ d. Now k (sent addr (Byte opc false ∷ Select ∷ calls))
+    (put-so-far k (g .is-alive) s (g .is-idle) t a (puts-onward k R a (take d []))
+    (writing-paged ((a + d) / 64 % pages k) ((a + d) % 64) (drop d []) (some-protected k R a (take d [])) false))
+    (onto (puts-onward k R a (take d [])) t)) (sym none) first in
     let out = run-out k (g .is-lawful) (g .is-alive) s within paged (g .is-idle) runs t a in
     let now : Now k (selection opc addr bytes calls) (at bytes) (onto (puts bytes) t) =
-            subst (λ cs. Now k cs (at bytes) (onto (puts bytes) t)) (sym (sent-more addr bytes (Byte opc false ∷ Select ∷ calls)))
-            (followed k at (λ xs. onto (puts xs) t) (λ xs b. out xs b .0) (λ xs b. out xs b .1)
-                bytes [] (sent addr (Byte opc false ∷ Select ∷ calls)) begun) in
+    subst (λ cs. Now k cs (at bytes) (onto (puts bytes) t)) (sym (sent-more addr bytes (Byte opc false ∷ Select ∷ calls)))
+    (followed k at (λ xs. onto (puts xs) t) (λ xs b. out xs b .0) (λ xs b. out xs b .1)
+    bytes [] (sent addr (Byte opc false ∷ Select ∷ calls)) begun) in
     let ends = ap (λ x. step k x (Release 0)) (now .state) ∙ run-release k (g .is-lawful) (g .is-alive) s within paged (g .is-idle) runs t a bytes (w .has-data) in
     record {
       answer = ap (λ (o : Out). o .answer) ends

@@ -45,7 +45,10 @@ all-changed k (e ∷ es) i = (left-by k e i, (left-changed k e i, all-changed k 
 -- the moment of a call behind others
 abbrev next-moment : Kind → List Call → Images → Call → Moment
 next-moment k calls i c = record {
-  call = c; answer = after k calls c .answer; drove = driven k (i .working) (after k calls c .drive); images = all-left-by k (after k calls c .events) i
+  call = c;
+  answer = after k calls c .answer;
+  drove = driven k (i .working) (after k calls c .drive);
+  images = all-left-by k (after k calls c .events) i;
 }
 
 abbrev ran : Kind → Images → List Call → List Moment
@@ -86,10 +89,11 @@ runs-exist k first working kept calls = (ran k first calls, (ran-calls k first c
 pub frames-are-sent : EveryFrameCanBeSentWhole
 frames-are-sent k first working kept calls live idle enabled free opc bytes names full =
     let newer : List Call = Release 0 ∷ sent bytes (Byte opc false ∷ Select ∷ []) in
-    let same : calls-of (ran k first calls) ≡ calls = ran-calls k first calls in
-    ( ran k first (newer ++ calls)
-    , ( ran-run k first working kept (newer ++ calls)
-      , record {
+    let same : calls-of (ran k first calls) ≡ calls = ran-calls k first calls in (
+      ran k first (newer ++ calls),
+      (
+        ran-run k first working kept (newer ++ calls),
+        record {
           meanwhile = front k first newer calls;
           earlier = ran k first calls;
           split = front-is k first newer calls;
@@ -100,4 +104,6 @@ frames-are-sent k first working kept calls live idle enabled free opc bytes name
           is-idle = ap (λ cs. state-after k cs .power) same ∙ idle;
           is-enabled = ap (λ cs. state-after k cs .latch) same ∙ enabled;
           is-free = ap (λ cs. state-after k cs .selection) same ∙ free;
-        } ) )
+        },
+      ),
+    )

@@ -61,7 +61,7 @@ module _ (k : Kind) (at : List ℕ → State) (so-far : List ℕ → List Event)
   followed (b ∷ bytes) earlier calls now =
       subst (λ xs. Now k (sent bytes (Byte b false ∷ calls)) (at xs) (so-far xs)) (append-assoc earlier (b ∷ []) bytes)
       (followed bytes (earlier ++ (b ∷ [])) (Byte b false ∷ calls)
-          (one-more k calls _ _ _ _ b now (state earlier b) (events earlier b)))
+      (one-more k calls _ _ _ _ b now (state earlier b) (events earlier b)))
 
 -- ---- opcode and address
 
@@ -103,7 +103,7 @@ module _ (k : Kind) (live : alive k ≡ true) (s : State) (idle : s .power ≡ O
       let pushed : length (held ++ (b ∷ [])) ≡ length held + 1 = length-push held b in
       subst (λ xs. Now k (sent (c ∷ bytes) (Byte b false ∷ calls)) (in-phase s (located k i (number xs % k .size))) t) (append-assoc held (b ∷ []) (c ∷ bytes))
       (located-behind i t (c ∷ bytes) (held ++ (b ∷ [])) (Byte b false ∷ calls) (omega arith) (omega arith)
-          (one-more k calls _ _ t t b now (ap (λ (o : Out). o .state) out) (ap (λ (o : Out). onto (o .events) t) out)))
+      (one-more k calls _ _ t t b now (ap (λ (o : Out). o .state) out) (ap (λ (o : Out). onto (o .events) t) out)))
 
 -- behind the address of a selection that is begun
 pub begun-at : (k : Kind) (calls : List Call) (i : Instruction) (opc : ℕ) (addr : List ℕ) → Begun k calls i opc addr
@@ -116,8 +116,8 @@ begun-at k calls i opc addr g allowed begins =
     located-behind k (g .is-alive) s (g .is-idle) i (trail k calls) addr [] (Byte opc false ∷ Select ∷ calls)
     (omega (arith, g .whole-address)) (omega (arith, g .is-lawful .address-has-2-or-3-bytes))
     (one-more k (Select ∷ calls) (in-phase s opcode) _ (trail k calls) (trail k calls) opc
-        (record { state = ap (λ (o : Out). o .state) first; events = ap (λ (o : Out). onto (o .events) (trail k calls)) first })
-        (ap (λ (o : Out). o .state) second) (ap (λ (o : Out). onto (o .events) (trail k calls)) second))
+    (record { state = ap (λ (o : Out). o .state) first; events = ap (λ (o : Out). onto (o .events) (trail k calls)) first })
+    (ap (λ (o : Out). o .state) second) (ap (λ (o : Out). onto (o .events) (trail k calls)) second))
 
 -- ---- reads
 
@@ -154,11 +154,11 @@ reads-on k calls opc addr g earlier b =
     let s = state-after k calls in
     let a = place k addr in
     let begun : Now k (sent addr (Byte opc false ∷ Select ∷ calls)) (reads-at k (g .is-alive) s (g .is-idle) (trail k calls) a []) (trail k calls) =
-            subst (λ n. Now k (sent addr (Byte opc false ∷ Select ∷ calls)) (in-phase s (reading n)) (trail k calls))
-            (sym (ap (λ n. n % k .size) (add-zero a) ∙ mod-mod (number addr) (k .size))) (begun-at k calls Read opc addr g refl refl) in
+    subst (λ n. Now k (sent addr (Byte opc false ∷ Select ∷ calls)) (in-phase s (reading n)) (trail k calls))
+    (sym (ap (λ n. n % k .size) (add-zero a) ∙ mod-mod (number addr) (k .size))) (begun-at k calls Read opc addr g refl refl) in
     let now = followed k (reads-at k (g .is-alive) s (g .is-idle) (trail k calls) a) (λ _. trail k calls) (read-state k (g .is-alive) s (g .is-idle) (trail k calls) a)
-            (λ before c. ap (λ (o : Out). onto (o .events) (trail k calls)) (read-out k (g .is-alive) s (g .is-idle) (trail k calls) a before c))
-            earlier [] (sent addr (Byte opc false ∷ Select ∷ calls)) begun in
+    (λ before c. ap (λ (o : Out). onto (o .events) (trail k calls)) (read-out k (g .is-alive) s (g .is-idle) (trail k calls) a before c))
+    earlier [] (sent addr (Byte opc false ∷ Select ∷ calls)) begun in
     ap (λ cs. after k cs (Byte b false) .drive) (sent-more addr earlier (Byte opc false ∷ Select ∷ calls))
     ∙ ap (λ x. step k x (Byte b false) .drive) (now .state)
     ∙ ap (λ (o : Out). o .drive) (read-out k (g .is-alive) s (g .is-idle) (trail k calls) a earlier b)
@@ -178,12 +178,12 @@ secure-reads k calls opc addr g earlier b =
     let s = state-after k calls in
     let a = place k addr in
     let now = followed k (secures-at k (g .is-alive) s (g .is-idle) (trail k calls) a) (λ _. trail k calls) (secure-state k (g .is-alive) s (g .is-idle) (trail k calls) a)
-            (λ before c. ap (λ (o : Out). onto (o .events) (trail k calls)) (secure-out k (g .is-alive) s (g .is-idle) (trail k calls) a before c))
-            earlier [] (sent addr (Byte opc false ∷ Select ∷ calls)) (begun-at k calls SecureRead opc addr g refl refl) in
+    (λ before c. ap (λ (o : Out). onto (o .events) (trail k calls)) (secure-out k (g .is-alive) s (g .is-idle) (trail k calls) a before c))
+    earlier [] (sent addr (Byte opc false ∷ Select ∷ calls)) (begun-at k calls SecureRead opc addr g refl refl) in
     let drives : after k (selection opc addr earlier calls) (Byte b false) .drive ≡ secure-drive a (min 66 (length earlier)) =
-            ap (λ cs. after k cs (Byte b false) .drive) (sent-more addr earlier (Byte opc false ∷ Select ∷ calls))
-            ∙ ap (λ x. step k x (Byte b false) .drive) (now .state)
-            ∙ ap (λ (o : Out). o .drive) (secure-out k (g .is-alive) s (g .is-idle) (trail k calls) a earlier b) in
+    ap (λ cs. after k cs (Byte b false) .drive) (sent-more addr earlier (Byte opc false ∷ Select ∷ calls))
+    ∙ ap (λ x. step k x (Byte b false) .drive) (now .state)
+    ∙ ap (λ (o : Out). o .drive) (secure-out k (g .is-alive) s (g .is-idle) (trail k calls) a earlier b) in
     subst (SecureByte a (length earlier)) (sym drives) (secure-byte a (length earlier))
 
 -- ---- a write that rolls over
@@ -217,11 +217,11 @@ module _ (k : Kind) (live : alive k ≡ true) (s : State) (idle : s .power ≡ O
       let d = length-drop (length bytes - 64) bytes in
       elim (cases-lt (length bytes) 64) [
         | inl few ↦ ap (λ xs. xs ++ (b ∷ [])) (cond-false (is-full (drop (length bytes - 64) bytes)) _ _ (lt-leb _ _ (omega arith)))
-              ∙ sym (drop-append-le (length bytes - 64) bytes (b ∷ []) (omega arith))
-              ∙ ap (λ n. drop n (bytes ++ (b ∷ []))) (omega arith)
+            ∙ sym (drop-append-le (length bytes - 64) bytes (b ∷ []) (omega arith))
+            ∙ ap (λ n. drop n (bytes ++ (b ∷ []))) (omega arith)
         | inr many ↦ ap (λ xs. xs ++ (b ∷ [])) (cond-true (is-full (drop (length bytes - 64) bytes)) _ _ (le-leb _ _ (omega arith)) ∙ drop-drop 1 (length bytes - 64) bytes)
-              ∙ sym (drop-append-le (length bytes - 64 + 1) bytes (b ∷ []) (omega arith))
-              ∙ ap (λ n. drop n (bytes ++ (b ∷ []))) (omega arith)
+            ∙ sym (drop-append-le (length bytes - 64 + 1) bytes (b ∷ []) (omega arith))
+            ∙ ap (λ n. drop n (bytes ++ (b ∷ []))) (omega arith)
       ]
 
   has-pushed : (bytes : List ℕ) (b : ℕ) → true ≡ has-bytes (bytes ++ (b ∷ []))
@@ -232,16 +232,16 @@ module _ (k : Kind) (live : alive k ≡ true) (s : State) (idle : s .power ≡ O
   rolled-out bytes b =
       hears k live s idle (rolled-phase bytes) b
       ∙ ap (heard-out s)
-          (cond-false (k .facts .runs-on (s .status-bits) && fills-page ((a + (length bytes - 64)) % 64) (drop (length bytes - 64) bytes)) _ _
-              (and-left (k .facts .runs-on (s .status-bits)) _ rolls))
+      (cond-false (k .facts .runs-on (s .status-bits) && fills-page ((a + (length bytes - 64)) % 64) (drop (length bytes - 64) bytes)) _ _
+      (and-left (k .facts .runs-on (s .status-bits)) _ rolls))
       ∙ ap (λ p. heard-out s (quiet p))
-          (ap₂ (λ f h. writing-paged (a / 64) f h false true) (rolls-first bytes b) (rolls-bytes bytes b)
-          ∙ ap (λ any. writing-paged (a / 64) ((a + (length (bytes ++ (b ∷ [])) - 64)) % 64) (drop (length (bytes ++ (b ∷ [])) - 64) (bytes ++ (b ∷ []))) false any) (has-pushed bytes b))
+      (ap₂ (λ f h. writing-paged (a / 64) f h false true) (rolls-first bytes b) (rolls-bytes bytes b)
+      ∙ ap (λ any. writing-paged (a / 64) ((a + (length (bytes ++ (b ∷ [])) - 64)) % 64) (drop (length (bytes ++ (b ∷ [])) - 64) (bytes ++ (b ∷ []))) false any) (has-pushed bytes b))
 
   -- the release of at least one data byte
   rolled-release : (bytes : List ℕ) → 1 ≤ length bytes
       → step k (in-phase s (rolled-phase bytes)) (Release 0)
-          ≡ ended-out (paged-ended k (in-phase s (rolled-phase bytes)) (a / 64) ((a + (length bytes - 64)) % 64) (drop (length bytes - 64) bytes) false)
+      ≡ ended-out (paged-ended k (in-phase s (rolled-phase bytes)) (a / 64) ((a + (length bytes - 64)) % 64) (drop (length bytes - 64) bytes) false)
   rolled-release [] some = absurd (let n : ⊥ = omega arith in n)
   rolled-release (b ∷ bytes) some = step-on k _ Idle (Release 0) live idle
 
@@ -256,7 +256,7 @@ module _ (k : Kind) (live : alive k ≡ true) (s : State) (idle : s .power ≡ O
 
   rolled-puts : (bytes : List ℕ)
       → placed (a / 64) ((a + (length bytes - 64)) % 64) (drop (length bytes - 64) bytes)
-          ≡ map (rolled-put a bytes) (counting (length bytes - 64) (min 64 (length bytes)))
+      ≡ map (rolled-put a bytes) (counting (length bytes - 64) (min 64 (length bytes)))
   rolled-puts bytes =
       placed-is (a / 64) a bytes (drop (length bytes - 64) bytes) ((a + (length bytes - 64)) % 64) (length bytes - 64) refl (omega arith)
       ∙ ap (λ n. map (rolled-put a bytes) (counting (length bytes - 64) n)) (length-drop (length bytes - 64) bytes ∙ omega arith)
@@ -271,24 +271,26 @@ rolls-over k calls opc addr bytes w paged rolls =
     let held = drop (length bytes - 64) bytes in
     let phase = rolled-phase k (g .is-alive) s (g .is-idle) rolls a in
     let begun : Now k (sent addr (Byte opc false ∷ Select ∷ calls)) (in-phase s (phase [])) t =
-            subst (λ p. Now k (sent addr (Byte opc false ∷ Select ∷ calls)) (in-phase s p) t)
-            (cond-false (k .facts .direct) _ _ paged ∙ ap (λ n. writing-paged (a / 64) (n % 64) [] false false) (sym (add-zero a)))
-            (begun-at k calls Write opc addr g (ap not (w .is-enabled)) refl) in
+    subst (λ p. Now k (sent addr (Byte opc false ∷ Select ∷ calls)) (in-phase s p) t)
+    (cond-false (k .facts .direct) _ _ paged ∙ ap (λ n. writing-paged (a / 64) (n % 64) [] false false) (sym (add-zero a)))
+    (begun-at k calls Write opc addr g (ap not (w .is-enabled)) refl) in
     let out = rolled-out k (g .is-alive) s (g .is-idle) rolls a in
     let now : Now k (selection opc addr bytes calls) (in-phase s (phase bytes)) t =
-            subst (λ cs. Now k cs (in-phase s (phase bytes)) t) (sym (sent-more addr bytes (Byte opc false ∷ Select ∷ calls)))
-            (followed k (λ xs. in-phase s (phase xs)) (λ _. t) (λ xs b. ap (λ (o : Out). o .state) (out xs b)) (λ xs b. ap (λ (o : Out). onto (o .events) t) (out xs b))
-                bytes [] (sent addr (Byte opc false ∷ Select ∷ calls)) begun) in
+    subst (λ cs. Now k cs (in-phase s (phase bytes)) t) (sym (sent-more addr bytes (Byte opc false ∷ Select ∷ calls)))
+    (followed k (λ xs. in-phase s (phase xs)) (λ _. t) (λ xs b. ap (λ (o : Out). o .state) (out xs b)) (λ xs b. ap (λ (o : Out). onto (o .events) t) (out xs b))
+    bytes [] (sent addr (Byte opc false ∷ Select ∷ calls)) begun) in
     let ends : after k (selection opc addr bytes calls) (Release 0) ≡ ended-out (paged-ended k (in-phase s (phase bytes)) (a / 64) first held false) =
-            ap (λ x. step k x (Release 0)) (now .state) ∙ rolled-release k (g .is-alive) s (g .is-idle) rolls a bytes (w .has-data) in
+    ap (λ x. step k x (Release 0)) (now .state) ∙ rolled-release k (g .is-alive) s (g .is-idle) rolls a bytes (w .has-data) in
     let blocked = blocked-is k (g .is-alive) s (g .is-idle) rolls a bytes (page-protected k (s .status-bits) (a / 64)) (w .has-data) in
     record {
-      puts-the-last-64 = λ free.
-          ( ap (λ (o : Out). o .answer) ends ∙ ap (λ c. answer-of (cond c (Some Protected) None)) (blocked ∙ free)
-          , ap₂ onto (ap (λ (o : Out). o .events) ends ∙ cond-false (page-protected k (s .status-bits) (a / 64)) _ _ free ∙ rolled-puts k (g .is-alive) s (g .is-idle) rolls a bytes) (now .events) );
-      puts-nothing-if-protected = λ shut.
-          ( ap (λ (o : Out). o .answer) ends ∙ ap (λ c. answer-of (cond c (Some Protected) None)) (blocked ∙ shut)
-          , ap₂ onto (ap (λ (o : Out). o .events) ends ∙ cond-true (page-protected k (s .status-bits) (a / 64)) _ _ shut) (now .events) );
+      puts-the-last-64 = λ free. (
+        ap (λ (o : Out). o .answer) ends ∙ ap (λ c. answer-of (cond c (Some Protected) None)) (blocked ∙ free),
+        ap₂ onto (ap (λ (o : Out). o .events) ends ∙ cond-false (page-protected k (s .status-bits) (a / 64)) _ _ free ∙ rolled-puts k (g .is-alive) s (g .is-idle) rolls a bytes) (now .events),
+      );
+      puts-nothing-if-protected = λ shut. (
+        ap (λ (o : Out). o .answer) ends ∙ ap (λ c. answer-of (cond c (Some Protected) None)) (blocked ∙ shut),
+        ap₂ onto (ap (λ (o : Out). o .events) ends ∙ cond-true (page-protected k (s .status-bits) (a / 64)) _ _ shut) (now .events),
+      );
     }
 
 -- ---- a right frame
@@ -321,22 +323,25 @@ frame-fills k calls opc bytes live idle free enabled names full right =
     let accepted-frame = cond-true (is-right k bytes) _ _ right in
     record {
       puts-its-data = λ clear.
-          let out = ends ∙ ap ended-out (accepted-frame ∙ cond-false shut _ _ clear) in
-          ( ap (λ (o : Out). o .answer) out
-          , ap (λ (o : Out). o .state .failed) out
-          , ap₂ onto (ap (λ (o : Out). o .events) out ∙ cond-false shut _ _ clear
-              ∙ placed-is (place / 64) place (frame-data k bytes) (frame-data k bytes) (place % 64) 0 refl (omega arith)
-              ∙ ap (λ n. map (rolled-put place (frame-data k bytes)) (counting 0 n)) long) before );
+          let out = ends ∙ ap ended-out (accepted-frame ∙ cond-false shut _ _ clear) in (
+            ap (λ (o : Out). o .answer) out,
+            ap (λ (o : Out). o .state .failed) out,
+            ap₂ onto (ap (λ (o : Out). o .events) out ∙ cond-false shut _ _ clear
+                ∙ placed-is (place / 64) place (frame-data k bytes) (frame-data k bytes) (place % 64) 0 refl (omega arith)
+                ∙ ap (λ n. map (rolled-put place (frame-data k bytes)) (counting 0 n)) long) before,
+          );
       puts-nothing-if-protected = λ closed.
-          let out = ends ∙ ap ended-out (accepted-frame ∙ cond-true shut _ _ closed) in
-          ( ap (λ (o : Out). o .answer) out
-          , ap (λ (o : Out). o .state .failed) out
-          , ap₂ onto (ap (λ (o : Out). o .events) out) before );
+          let out = ends ∙ ap ended-out (accepted-frame ∙ cond-true shut _ _ closed) in (
+            ap (λ (o : Out). o .answer) out,
+            ap (λ (o : Out). o .state .failed) out,
+            ap₂ onto (ap (λ (o : Out). o .events) out) before,
+          );
     }
 
 pub wrong-frame-marks : WrongFrameSetsTheFailMark
 wrong-frame-marks k calls opc bytes live idle free enabled names full wrong =
-    let out = frame-judged k calls opc bytes live idle free enabled names full ∙ ap ended-out (cond-false (is-right k bytes) _ _ wrong) in
-    ( ap (λ (o : Out). o .answer) out
-    , ap (λ (o : Out). o .state .failed) out
-    , ap₂ onto (ap (λ (o : Out). o .events) out) (before-judged k calls opc bytes live idle free enabled names full) )
+    let out = frame-judged k calls opc bytes live idle free enabled names full ∙ ap ended-out (cond-false (is-right k bytes) _ _ wrong) in (
+      ap (λ (o : Out). o .answer) out,
+      ap (λ (o : Out). o .state .failed) out,
+      ap₂ onto (ap (λ (o : Out). o .events) out) (before-judged k calls opc bytes live idle free enabled names full),
+    )

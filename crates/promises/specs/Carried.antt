@@ -47,23 +47,23 @@ abbrev pub StoreKeepsEveryPage : Type 0
 StoreKeepsEveryPage =
     (k : Kind) (calls : List Call) (opcode : ℕ) → Commanded k calls opcode Store
     → CarriedOut k (ticks (pages k) (commanded opcode calls)) (keeps 0 (pages k)) (trail k calls)
-        × (state-after k (ticks (pages k) (commanded opcode calls)) .written ≡ false)
+    × (state-after k (ticks (pages k) (commanded opcode calls)) .written ≡ false)
 
 -- A recall with a tick for each page recalls every page once, lowest first, and the written mark is clear.
 abbrev pub RecallRecallsEveryPage : Type 0
 RecallRecallsEveryPage =
     (k : Kind) (calls : List Call) (opcode : ℕ) → Commanded k calls opcode Recall
     → CarriedOut k (ticks (pages k) (commanded opcode calls)) (recalls 0 (pages k)) (trail k calls)
-        × (state-after k (ticks (pages k) (commanded opcode calls)) .written ≡ false)
+    × (state-after k (ticks (pages k) (commanded opcode calls)) .written ≡ false)
 
 -- So does a power-up, and latch and both marks are clear.
 abbrev pub WakingRecallsEveryPage : Type 0
 WakingRecallsEveryPage =
     (k : Kind) (calls : List Call) → alive k ≡ true → state-after k calls .power ≡ Off
     → CarriedOut k (ticks (pages k) (PowerUp ∷ calls)) (recalls 0 (pages k)) (trail k calls)
-        × (state-after k (ticks (pages k) (PowerUp ∷ calls)) .latch ≡ false)
-        × (state-after k (ticks (pages k) (PowerUp ∷ calls)) .failed ≡ false)
-        × (state-after k (ticks (pages k) (PowerUp ∷ calls)) .written ≡ false)
+    × (state-after k (ticks (pages k) (PowerUp ∷ calls)) .latch ≡ false)
+    × (state-after k (ticks (pages k) (PowerUp ∷ calls)) .failed ≡ false)
+    × (state-after k (ticks (pages k) (PowerUp ∷ calls)) .written ≡ false)
 
 -- calls that leave a selection open: bytes, held or not, and ticks
 abbrev pub Inside : List Call → Type 0

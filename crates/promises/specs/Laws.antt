@@ -45,22 +45,22 @@ abbrev pub NoOtherCutKeeps : Type 0
 NoOtherCutKeeps =
     (k : Kind) (s : State) (charged : Bool) (p : ℕ) → Keeps p (step k s (Cut charged) .events)
     → (charged ≡ true)
-        × (((next : ℕ) × ((s .power ≡ On (Storing next)) × (next ≤ p)))
-            ⊎ ((s .power ≡ On Idle) × (s .written ≡ true) × (k .facts .power-store (s .status-bits) ≡ true)))
+    × (((next : ℕ) × ((s .power ≡ On (Storing next)) × (next ≤ p)))
+    ⊎ ((s .power ≡ On Idle) × (s .written ≡ true) × (k .facts .power-store (s .status-bits) ≡ true)))
 
 -- A tick while recalling or waking recalls the next page whatever the status bits are, protected or not.
 abbrev pub ProtectionDoesNotHoldBackARecall : Type 0
 ProtectionDoesNotHoldBackARecall =
     (k : Kind) (s : State) (p : ℕ) → alive k ≡ true
     → (s .power ≡ On (Recalling p) → step k s Tick .events ≡ recall p ∷ [])
-        × (s .power ≡ On (Waking p) → step k s Tick .events ≡ recall p ∷ [])
+    × (s .power ≡ On (Waking p) → step k s Tick .events ≡ recall p ∷ [])
 
 -- No byte of a status that is being read, held or not, and no release of it changes the fail mark.
 abbrev pub ReadingStatusDoesNotClearTheFailMark : Type 0
 ReadingStatusDoesNotClearTheFailMark =
     (k : Kind) (s : State) → s .selection ≡ selected reading-status
     → ((b : ℕ) (held : Bool) → step k s (Byte b held) .state .failed ≡ s .failed)
-        × ((clocks : ℕ) → step k s (Release clocks) .state .failed ≡ s .failed)
+    × ((clocks : ℕ) → step k s (Release clocks) .state .failed ≡ s .failed)
 
 -- P holds of one number, and of no other.
 abbrev pub ExactlyOne : (ℕ → Type 0) → Type 0

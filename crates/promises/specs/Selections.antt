@@ -89,11 +89,11 @@ rolled-put a bytes i = put (64 * (a / 64) + (a + i) % 64) (getD bytes i 0)
 pub record RolledOver (k : Kind) (calls : List Call) (opcode : ℕ) (address bytes : List ℕ) : Type 0 where
   pub puts-the-last-64 : page-protected k (bits-before k calls) (place k address / 64) ≡ false
       → (released k calls opcode address bytes .answer ≡ Ok 0)
-          × (trail-released k calls opcode address bytes
-              ≡ onto (map (rolled-put (place k address) bytes) (counting (length bytes - 64) (min 64 (length bytes)))) (trail k calls))
+      × (trail-released k calls opcode address bytes
+      ≡ onto (map (rolled-put (place k address) bytes) (counting (length bytes - 64) (min 64 (length bytes)))) (trail k calls))
   pub puts-nothing-if-protected : page-protected k (bits-before k calls) (place k address / 64) ≡ true
       → (released k calls opcode address bytes .answer ≡ Err Protected)
-          × (trail-released k calls opcode address bytes ≡ trail k calls)
+      × (trail-released k calls opcode address bytes ≡ trail k calls)
 
 abbrev pub WriteThatRollsOver : Type 0
 WriteThatRollsOver =
@@ -143,12 +143,12 @@ trail-judged k calls opcode bytes = trail k (Release 0 ∷ sent bytes (Byte opco
 pub record Filled (k : Kind) (calls : List Call) (opcode : ℕ) (bytes : List ℕ) : Type 0 where
   pub puts-its-data : page-protected k (bits-before k calls) (frame-place k bytes / 64) ≡ false
       → (judged k calls opcode bytes .answer ≡ Ok 0) × (judged k calls opcode bytes .state .failed ≡ false)
-          × (trail-judged k calls opcode bytes
-              ≡ onto (map (rolled-put (frame-place k bytes) (frame-data k bytes)) (counting 0 64)) (trail k calls))
+      × (trail-judged k calls opcode bytes
+      ≡ onto (map (rolled-put (frame-place k bytes) (frame-data k bytes)) (counting 0 64)) (trail k calls))
   pub puts-nothing-if-protected : page-protected k (bits-before k calls) (frame-place k bytes / 64) ≡ true
       → (judged k calls opcode bytes .answer ≡ Err Protected)
-          × (judged k calls opcode bytes .state .failed ≡ state-after k calls .failed)
-          × (trail-judged k calls opcode bytes ≡ trail k calls)
+      × (judged k calls opcode bytes .state .failed ≡ state-after k calls .failed)
+      × (trail-judged k calls opcode bytes ≡ trail k calls)
 
 abbrev pub RightFrameFillsItsPage : Type 0
 RightFrameFillsItsPage =
@@ -164,4 +164,4 @@ WrongFrameSetsTheFailMark =
     → state-after k calls .power ≡ On Idle → state-after k calls .selection ≡ unselected → state-after k calls .latch ≡ true
     → k .facts .decode opcode ≡ Some SecureWrite → length bytes ≡ frame-length k → is-right k bytes ≡ false
     → (judged k calls opcode bytes .answer ≡ Err WrongSum) × (judged k calls opcode bytes .state .failed ≡ true)
-        × (trail-judged k calls opcode bytes ≡ trail k calls)
+    × (trail-judged k calls opcode bytes ≡ trail k calls)

@@ -4,5 +4,4 @@ ghost use Rattle.reached.specs.Reached.{Reached};
 // Each activity, each instruction, each refusal, a promised put, a lost one, a right frame and a damaged one are reached.
 pub fn everything_is_reached()
     ensures { λ _. ⌜ Reached ⌝ }
-{
-}
+{}

@@ -1,6 +1,6 @@
 -- The code's values, as the rules have them.
 use mathlib.Core.Path.{_≡_}
-use mathlib.Core.Bool.{Bool, true}
+use mathlib.Core.Bool.{Bool, true, false}
 use mathlib.Core.List.{List}
 use Prim.Native.Nat.{ℕ, _*_}
 use Rattle.selection.specs.declared.phase.Phase.{Phase}
@@ -16,6 +16,7 @@ use Rattle.std.specs.declared.option.Option.the-variants.{Some, None}
 use Rattle.std.specs.declared.result.Result.{Result}
 use Rattle.std.specs.declared.result.Result.the-variants.{Ok, Err}
 use Rattle.refusal.specs.declared.Refusal.{Refusal}
+use Rattle.refusal.specs.declared.Refusal.the-variants.{Dead}
 use Rattle.cells.specs.Images.{Images}
 use Rattle.cells.specs.Laws.{Site}
 use Rattle.dialect.specs.Facts.{Facts}
@@ -68,3 +69,18 @@ pub record Done (k : Kind) (es : List rules.Event) (i : Images) (at : Site) (i�
 abbrev pub refusal-of : {A : Type 0} → Result A Refusal → Option Refusal
 refusal-of (Ok x) = None
 refusal-of (Err r) = Some r
+
+-- A byte was not heard: nothing changed, and nothing was driven or put.
+pub record Ignored (p p′ : Phase) (driven : Option ℕ) (wrote : Bool) (i i′ : Images) (at at′ : Site) : Type 0 where
+  pub phase : p′ ≡ p
+  pub drives-nothing : driven ≡ None
+  pub puts-nothing : wrote ≡ false
+  pub images : i′ ≡ i
+  pub site : at′ ≡ at
+
+-- A release was refused as that of a dead part: nothing changed.
+pub record Denied (r : Option Refusal) (c c′ : Control) (i i′ : Images) (at at′ : Site) : Type 0 where
+  pub refusal : r ≡ Some Dead
+  pub control : c′ ≡ c
+  pub images : i′ ≡ i
+  pub site : at′ ≡ at

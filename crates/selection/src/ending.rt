@@ -13,7 +13,7 @@ ghost use Rattle.rules.specs.Release.{ended, paged-ended, frame-ended, effect, 
 ghost use Rattle.rules.specs.Step.{ended-out, marked};
 ghost use Rattle.rules.specs.State.{unselected};
 ghost use Rattle.selection.specs.Held.{items};
-ghost use Rattle.selection.specs.View.{kind-of, kind-for, phase-of, state-of, Done, refusal-of};
+ghost use Rattle.selection.specs.View.{kind-of, kind-for, phase-of, state-of, Done, Denied, refusal-of};
 use crate::address::modulo;
 use crate::control::Control;
 use crate::held::Held;
@@ -153,8 +153,28 @@ fn end_frame<D: Dialect, C: Cells>(
     Ok(())
 }
 
-// Ends a selection: what its release answers, and what it does to the control and the cells.
+// Ends a selection: what its release answers, and what it does to the control and the cells. A size that is not
+// that of the cells, or is that of a dead array, is refused as dead.
 pub fn end<D: Dialect, C: Cells>(
+    control: &mut Control,
+    phase: &Phase,
+    cells: &mut C,
+    size: u32,
+    clocks: u8,
+) -> Result<(), Refusal>
+    ensures answer { λ r. ⌜ (size ≡ 64 * site (now (cells .entry)) .pages → 64 ≤ size → refusal-of r ≡ ended (kind-of facts lasting (site (now (cells .entry)))) (state-of (now (control .entry)) unselected) (phase-of (now (phase .entry))) clocks .refusal) ⌝ }
+    ensures control { λ _. ⌜ (size ≡ 64 * site (now (cells .entry)) .pages → 64 ≤ size → state-of (now (control .exit)) unselected ≡ ended-out (ended (kind-of facts lasting (site (now (cells .entry)))) (state-of (now (control .entry)) unselected) (phase-of (now (phase .entry))) clocks) .state) ⌝ }
+    ensures done { λ _. ⌜ (size ≡ 64 * site (now (cells .entry)) .pages → 64 ≤ size → Done (kind-of facts lasting (site (now (cells .entry)))) (ended (kind-of facts lasting (site (now (cells .entry)))) (state-of (now (control .entry)) unselected) (phase-of (now (phase .entry))) clocks .events) (images (now (cells .entry))) (site (now (cells .entry))) (images (now (cells .exit))) (site (now (cells .exit)))) ⌝ }
+    ensures misfit { λ r. ⌜ ((size ≡ 64 * site (now (cells .entry)) .pages → 64 ≤ size → ⊥) → Denied (refusal-of r) (now (control .entry)) (now (control .exit)) (images (now (cells .entry))) (images (now (cells .exit))) (site (now (cells .entry))) (site (now (cells .exit)))) ⌝ }
+{
+    if size < 64 || cells.size() != size as usize {
+        return Err(Refusal::Dead);
+    }
+    end_sized::<D, C>(control, phase, cells, size, clocks)
+}
+
+// The same for a size that is known to be that of the cells.
+fn end_sized<D: Dialect, C: Cells>(
     control: &mut Control,
     phase: &Phase,
     cells: &mut C,

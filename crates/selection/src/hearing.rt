@@ -11,7 +11,7 @@ ghost use Rattle.rules.specs.State.{unselected};
 ghost use Rattle.rules.specs.Step.{marked};
 ghost use Rattle.status.specs.Status.{status-byte, mask-bits};
 ghost use Rattle.selection.specs.Held.{items};
-ghost use Rattle.selection.specs.View.{kind-of, phase-of, state-of, Done};
+ghost use Rattle.selection.specs.View.{kind-of, phase-of, state-of, Done, Ignored};
 use crate::address::address;
 use crate::control::Control;
 use crate::held::Held;
@@ -31,8 +31,33 @@ pub struct Heard {
     pub wrote: bool,
 }
 
-// The phase takes one unheld byte and moves on in place.
+// The phase takes one unheld byte and moves on in place. A size that is not that of the cells, or is that of a dead array,
+// has nothing heard.
 pub fn hear<D: Dialect, C: Cells>(
+    control: &Control,
+    activity: Activity,
+    phase: &mut Phase,
+    cells: &mut C,
+    size: u32,
+    value: u8,
+) -> Heard
+    ensures phase { λ _. ⌜ (size ≡ 64 * site (now (cells .entry)) .pages → 64 ≤ size → phase-of (now (phase .exit)) ≡ heard (kind-of facts lasting (site (now (cells .entry)))) (state-of (now (control .entry)) unselected) activity (phase-of (now (phase .entry))) value .phase) ⌝ }
+    ensures driven { λ r. ⌜ (size ≡ 64 * site (now (cells .entry)) .pages → 64 ≤ size → r .driven ≡ driven-byte (kind-of facts lasting (site (now (cells .entry)))) (images (now (cells .entry)) .working) (heard (kind-of facts lasting (site (now (cells .entry)))) (state-of (now (control .entry)) unselected) activity (phase-of (now (phase .entry))) value .drive)) ⌝ }
+    ensures wrote { λ r. ⌜ (size ≡ 64 * site (now (cells .entry)) .pages → 64 ≤ size → r .wrote ≡ marked (heard (kind-of facts lasting (site (now (cells .entry)))) (state-of (now (control .entry)) unselected) activity (phase-of (now (phase .entry))) value .events) false) ⌝ }
+    ensures done { λ _. ⌜ (size ≡ 64 * site (now (cells .entry)) .pages → 64 ≤ size → Done (kind-of facts lasting (site (now (cells .entry)))) (heard (kind-of facts lasting (site (now (cells .entry)))) (state-of (now (control .entry)) unselected) activity (phase-of (now (phase .entry))) value .events) (images (now (cells .entry))) (site (now (cells .entry))) (images (now (cells .exit))) (site (now (cells .exit)))) ⌝ }
+    ensures misfit { λ r. ⌜ ((size ≡ 64 * site (now (cells .entry)) .pages → 64 ≤ size → ⊥) → Ignored (now (phase .entry)) (now (phase .exit)) (r .driven) (r .wrote) (images (now (cells .entry))) (images (now (cells .exit))) (site (now (cells .entry))) (site (now (cells .exit)))) ⌝ }
+{
+    if size < 64 || cells.size() != size as usize {
+        return Heard {
+            driven: None,
+            wrote: false,
+        };
+    }
+    hear_sized::<D, C>(control, activity, phase, cells, size, value)
+}
+
+// The same for a size that is known to be that of the cells.
+fn hear_sized<D: Dialect, C: Cells>(
     control: &Control,
     activity: Activity,
     phase: &mut Phase,

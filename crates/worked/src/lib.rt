@@ -4,8 +4,7 @@ ghost use Rattle.worked.specs.Worked.{WorkedValues};
 // Each worked value is what the definitions say.
 pub fn worked_values_hold()
     ensures { λ _. ⌜ WorkedValues ⌝ }
-{
-}
+{}
 
 #[cfg(test)]
 mod tests {

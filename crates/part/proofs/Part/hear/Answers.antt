@@ -11,4 +11,4 @@ returns-in-Selected-2 g c =
     let e = c .hear-driven .ensures in
     byte-does k (p .control) (selection-of (p .selection)) (c .args .activity) (phase-of (c .in-Selected .field-0)) (phase-of (c .hear-driven .last .phase))
     (c .args .value) (c .args .held) (m .images (p .cells)) (m .images (c .hear-driven .last .cells)) (m .site (p .cells)) (m .site (c .hear-driven .last .cells))
-    (c .hear-driven .result .wrote) (c .hear-driven .result .driven) (ap selection-of (c .in-Selected .is)) (c .if-held .left) (e .phase) (e .driven) (e .wrote) (e .done)
+    (c .hear-driven .result .wrote) (c .hear-driven .result .driven) (ap selection-of (c .in-Selected .is)) (c .if-held .left) (e .phase (c .pre .0) (c .pre .1)) (e .driven (c .pre .0) (c .pre .1)) (e .wrote (c .pre .0) (c .pre .1)) (e .done (c .pre .0) (c .pre .1))
