@@ -1,4 +1,6 @@
 //! What a bench prints: a line for each record, or one line for a file that does not open.
+#![tactic(auto)]
+
 ghost use Rattle.std.specs.Prelude.{◌≡◌, ◌+◌, ◌*◌, ◌≤◌, true, [], ◌∷◌, ◌++◌, length, is_ok, vec_len, vec_capacity, MatchResult};
 ghost use Rattle.benchlines.specs.Lines.{driven_text, all_driven_text, result_number, to_go_text, line_start, line_text, opening_text};
 

@@ -1,4 +1,6 @@
 //! Plays the run file on standard input, for the bench programs.
+#![tactic(auto)]
+
 ghost use Rattle.std.specs.Prelude.{IfOk};
 ghost use Rattle.part.specs.Whole.{whole};
 ghost use Rattle.replay.specs.Played.{Played as FilePlayed};

@@ -7,6 +7,8 @@
 //
 // A line has the array's size and the number of address bytes in decimal, and then the frame's bytes as pairs of
 // hexadecimal digits. specs/Frame.antt says what is read from it, in the same steps and names.
+#![tactic(auto)]
+
 ghost use Rattle.std.specs.Prelude.{◌≡◌, ℕ, ◌%◌, ◌^◌};
 ghost use Rattle.crc.specs.Transfer.{count_of};
 ghost use Rattle.fields.specs.Fields.{seen, capped};

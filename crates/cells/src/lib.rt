@@ -1,4 +1,6 @@
 // Cell arrays: the memory that a part stands on, by its two images.
+#![tactic(auto)]
+
 ghost use Rattle.std.specs.Prelude.{◌≡◌, Bool};
 ghost use Rattle.refusal.specs.Numbers.{numbered};
 ghost use Rattle.cells.specs.Images.{Images, got, address_answer, page_answer, after_put, after_keep, after_recall};

@@ -1,4 +1,5 @@
 // Scenes with the two cell arrays, as tests: what the watch does, what the battery does, what the runner finds.
+#![tactic(auto)]
 
 #[cfg(test)]
 mod tests {

@@ -5,6 +5,8 @@
 // The expected output is worked out by hand from the rules: docs/CELLS.md has the steps in a table. In short: shadowed cells
 // lose at the fade what was not kept (address 17, put after the keep, and address 70, in a page that was never kept), and
 // lasting cells lose nothing.
+#![tactic(auto)]
+
 ghost use Rattle.std.specs.Prelude.{◌≡◌, true, false, length};
 ghost use Rattle.refusal.specs.Numbers.{numbered};
 ghost use Rattle.cells.specs.Sizes.{pages_for};

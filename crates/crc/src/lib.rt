@@ -6,6 +6,8 @@
 // It is the cyclic redundancy check with the polynomial 1021h, started at FFFFh, fed highest bit first, with no final
 // change. specs/Sum.antt defines it bit by bit; the functions here step by half bytes over a table and are proved to
 // answer the same, for every message and from every register.
+#![tactic(auto)]
+
 ghost use Rattle.std.specs.Prelude.{◌≡◌, ◌/◌, ◌%◌, ◌<◌, slice_index};
 ghost use Rattle.crc.specs.Sum.{after_bits, bits, after_message, start, sum_of};
 ghost use Rattle.crc.specs.Table.{multiples};

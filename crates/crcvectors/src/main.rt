@@ -2,6 +2,8 @@
 //
 // The catalogue of parametrised CRC algorithms lists this one as CRC-16/IBM-3740. The other sums are those that Python's
 // binascii.crc_hqx works out from a start of FFFFh; bench/crc_vectors.py prints them, and what is printed here.
+#![tactic(auto)]
+
 use std::alloc::{AllocError, Global};
 
 const CATALOGUE: &str = "the catalogue";

@@ -1,6 +1,8 @@
 // What the sum catches.
 //
 //     if !detect::ends_with_sum(frame) { /* damaged on the way */ }
+#![tactic(auto)]
+
 ghost use Rattle.std.specs.Prelude.{◌≡◌, ℕ, false, ◌&&◌, List, length, Decides, ◌==◌, nat_le};
 ghost use Rattle.crc.specs.Sum.{message_bits, sum_of};
 ghost use Rattle.detect.specs.Damage.{EndsWithSum, Burst};

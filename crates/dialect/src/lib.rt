@@ -5,6 +5,8 @@
 //     Nv::is_alive(65_536)              false
 //
 // `specs/Facts.antt` has the facts and their laws, `specs/Nv.antt` and `specs/Mr.antt` the two delivered dialects.
+#![tactic(auto)]
+
 ghost use Rattle.std.specs.Prelude.{◌≡◌, ◌<◌, Decides};
 ghost use Rattle.dialect.specs.Facts.{Facts, Lawful, Alive, bit};
 

@@ -4,6 +4,8 @@
 //
 // Each function reads one thing from the front of a text, past the blanks before it, and answers it with the text behind
 // it. specs/Fields.antt says how each is written, in the same steps and names.
+#![tactic(auto)]
+
 ghost use Rattle.std.specs.Prelude.{◌≡◌, ◌+◌, ◌*◌, ◌^◌, ◌<◌, ◌≤◌, IfOk, slice_index};
 ghost use Rattle.crc.specs.Transfer.{count_of};
 ghost use Rattle.fields.specs.Fields.{seen, capped, with_capped, blank, digit, digit_values, hexadecimal, no_second_digit, next, past_blanks};

@@ -1,4 +1,6 @@
 //! Numbers as upper-case hexadecimal figures.
+#![tactic(auto)]
+
 ghost use Rattle.std.specs.Prelude.{◌≡◌, ◌%◌, ◌<◌};
 ghost use Rattle.figures.specs.Figures.{figure};
 

@@ -5,6 +5,8 @@
 // Standard input has a frame on each line; standard output has a line for each, and at the end how many were right, wrong
 // and unreadable. What a line says is worked out by `capture` and put into words by `report`, and proved there; here is
 // only the reading and the writing.
+#![tactic(auto)]
+
 use report::Tally;
 use std::io::{Read, Write};
 

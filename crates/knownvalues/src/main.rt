@@ -3,6 +3,8 @@
 //
 // The catalogue of parametrised CRC algorithms lists the sum as CRC-16/IBM-3740. The other sums are those that Python's
 // binascii.crc_hqx works out from a start of FFFFh; bench/known_values.py prints them, and what is printed here.
+#![tactic(auto)]
+
 use dialect::{Mr, Nv};
 use lasting::Lasting;
 use part::Part;

@@ -6,6 +6,8 @@
 // call; when it is gone, the memory is free to be looked at: the working image, then the kept image.
 //
 // The expected output is worked out by bench/lapwatch_expected.py, a small model that shares nothing with the code here.
+#![tactic(auto)]
+
 use dialect::Nv;
 use part::Part;
 use refusal::Refusal;

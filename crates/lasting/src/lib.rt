@@ -1,4 +1,6 @@
 // Lasting cells over lent memory: one image of bytes, of which none fades.
+#![tactic(auto)]
+
 ghost use Rattle.std.specs.Prelude.{◌≡◌, ◌<◌, true, length};
 ghost use Rattle.refusal.specs.Numbers.{numbered};
 ghost use Rattle.cells.specs.Images.{page_answer, after_keep, after_recall};

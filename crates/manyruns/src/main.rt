@@ -4,6 +4,8 @@
 // Standard input has the files one behind the other, each behind its length in three bytes, highest first. The files in `stdin`
 // are pseudo-random sessions, whole and damaged, and the examples; `stdout` was written by bench/run_model, a model of the same
 // machine that shares nothing with the code here, and was written from docs/ alone.
+#![tactic(auto)]
+
 use dialect::{Mr, Nv};
 use lasting::Lasting;
 use part::Part;

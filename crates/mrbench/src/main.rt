@@ -2,6 +2,8 @@
 // record.
 //
 //     mrbench < examples/lap-kept.run
+#![tactic(auto)]
+
 use benchrun::play_input;
 use dialect::Mr;
 use lasting::Lasting;

@@ -2,6 +2,8 @@
 // record.
 //
 //     nvbench < examples/lap-kept.run
+#![tactic(auto)]
+
 use benchrun::play_input;
 use dialect::Nv;
 use part::Part;

@@ -1,4 +1,6 @@
 // A part: one dialect above one cell array.
+#![tactic(auto)]
+
 ghost use Rattle.std.specs.Prelude.{◌≡◌, ◌+◌, ◌-◌, ◌*◌, ◌≤◌, cond, [], None, Ok};
 ghost use Rattle.rules.specs.declared.Call.TheVariants.{Select, Byte, Release, Tick, Cut, PowerUp};
 ghost use Rattle.rules.specs.declared.Power.TheVariants.{On};

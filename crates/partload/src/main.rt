@@ -3,6 +3,8 @@
 //
 // bench/part_baseline plays the same traffic on a model of the same machine in ordinary Rust, and must print the same;
 // the expected output comes from there. bench/part.sh compares their speed.
+#![tactic(auto)]
+
 use crc::AddressBytes;
 use dialect::Nv;
 use part::Part;

@@ -1,5 +1,6 @@
 // Scenes with the four pairings of a dialect and a cell array, as tests: a lap is written, the battery gives out, the watch
 // wakes and reads back what it finds.
+#![tactic(auto)]
 
 #[cfg(test)]
 mod tests {

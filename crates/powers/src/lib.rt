@@ -1,4 +1,6 @@
 //! Powers of two, by which memories are sized.
+#![tactic(auto)]
+
 ghost use Rattle.std.specs.Prelude.{◌≡◌, ℕ, ◌^◌, Decides, ◌==◌, count_ones};
 
 // Whether a number is a power of two: it has one binary digit that is 1.

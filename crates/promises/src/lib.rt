@@ -1,5 +1,7 @@
 // What every run of a part promises, and laws of its calls: specs/Promises.antt, Laws.antt, Selections.antt and Carried.antt
 // say it, and the functions below hold it up, so that each proof is asked for.
+#![tactic(auto)]
+
 ghost use Rattle.promises.specs.Carried.{StoreKeepsEveryPage, RecallRecallsEveryPage, WakingRecallsEveryPage, ReleaseOfAWriteClearsTheLatch};
 ghost use Rattle.promises.specs.Laws.{PowerStoreOffDoesNotStopAStore, NoOtherCutKeeps, IdleCutKeepsEveryPage, ProtectionDoesNotHoldBackARecall, ReadingStatusDoesNotClearTheFailMark, EachAddressHasOnePromisedByte, EachAddressHasOneCurrentByte, PromisesPinTheKeptImage, PromisesPinTheIdleWorkingImage, WakingLeavesTheKeptImage, EveryListOfCallsHasARun, EveryFrameCanBeSentWhole};
 ghost use Rattle.promises.specs.Promises.{PromisesHold};

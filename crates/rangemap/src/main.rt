@@ -1,4 +1,6 @@
 // Prints, for each size given as an argument, which status bits protect which addresses in each dialect.
+#![tactic(auto)]
+
 ghost use Rattle.dialect.specs.Facts.{Alive, Within};
 
 use dialect::{Dialect, Mr, Nv};

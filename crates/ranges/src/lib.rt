@@ -1,4 +1,6 @@
 // The rows of a table of protected ranges: which status bits stand together, since they protect the same range.
+#![tactic(auto)]
+
 ghost use Rattle.ranges.specs.Rows.{Shares, Opens};
 ghost use Rattle.std.specs.Prelude.{Decides};
 

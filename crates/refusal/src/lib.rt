@@ -1,4 +1,6 @@
 //! Why a call was turned away. All layers share this one enum, and each case has a number, under which docs and programs tell it.
+#![tactic(auto)]
+
 ghost use Rattle.std.specs.Prelude.{◌≡◌};
 ghost use Rattle.refusal.specs.Numbers.{number_of};
 

@@ -1,4 +1,6 @@
 //! Plays run files on parts.
+#![tactic(auto)]
+
 mod bench;
 mod play;
 mod record;

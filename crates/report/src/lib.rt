@@ -1,4 +1,6 @@
 // What is printed of captured lines.
+#![tactic(auto)]
+
 ghost use Rattle.std.specs.Prelude.{◌≡◌, ◌%◌, ◌<◌, [], ◌∷◌, ◌++◌, length, IfSome, Some, string_bytes, MatchOption, OnOk, ◌==◌};
 ghost use Rattle.report.specs.Lines.{lines, first_line, both_seen};
 ghost use Rattle.report.specs.Report.{figure, sum_text, word, reason, verdict_text, reason_text, line_text, counted, tally_text};

@@ -1,5 +1,6 @@
 // The plain types that the rules of the machine and its code share. The rules themselves stand in specs/, one file for
 // each subject; specs/Step.antt joins them.
+#![tactic(auto)]
 
 // What a powered part is doing. The number is its next page.
 #[derive(Clone, Copy, PartialEq, Eq, Debug)]

@@ -5,6 +5,8 @@
 //!     while let Some(found) = records.next() {
 //!         let record = Record::read(found.bytes)?;
 //!     }
+#![tactic(auto)]
+
 pub mod fault;
 pub mod letters;
 mod reader;

@@ -1,4 +1,6 @@
 //! Scenes of run files: what a reader finds, where faults are told, and what a bench makes of records.
+#![tactic(auto)]
+
 #[cfg(test)]
 mod tests {
     use dialect::Nv;

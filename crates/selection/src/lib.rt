@@ -1,4 +1,6 @@
 // A selection under way: how far it has come, and what each byte and the release do.
+#![tactic(auto)]
+
 mod address;
 mod control;
 mod ending;

@@ -1,4 +1,6 @@
 // Shadowed cells over lent memory: a working image that fades to FFh, and a kept image that only a keep changes.
+#![tactic(auto)]
+
 ghost use Rattle.std.specs.Prelude.{◌≡◌, ◌+◌, ◌<◌, false, length, replicate};
 ghost use Rattle.cells.specs.Laws.{size_of, Bytes};
 ghost use Rattle.shadowed.specs.Halves.{halves};

@@ -2,6 +2,8 @@
 //
 //     status::assemble::<Nv>(0x04, true, false, true)     0x14
 //     status::update::<Nv>(0xFF)                          0x6C
+#![tactic(auto)]
+
 ghost use Rattle.std.specs.Prelude.{◌≡◌, ◌+◌, cond, if◌then◌else◌, bit_and};
 ghost use Rattle.dialect.specs.Facts.{Within};
 ghost use Rattle.status.specs.Status.{status_byte, mask_bits, Apart, BitsNeverCollide};

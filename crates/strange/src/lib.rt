@@ -1,4 +1,6 @@
 // A lawful dialect that no maker sells, and the unlawful ones that the laws shut out: a test of the trait `Dialect`.
+#![tactic(auto)]
+
 ghost use Rattle.strange.specs.Strange.{strange};
 ghost use Rattle.strange.specs.Unlawful.{ShutOut};
 ghost use Rattle.std.proofs.Common.{inr, rules, arith};

@@ -1,4 +1,6 @@
 // Values worked out by hand, as one table with one proof: specs/Worked.antt. The tests ask the code for the dialects' rows.
+#![tactic(auto)]
+
 ghost use Rattle.worked.specs.Worked.{WorkedValues};
 
 // Each worked value is what the definitions say.
