@@ -5,8 +5,8 @@ use Rattle.crc.proofs.after_byte.Goals as goal
 
 pub returns : goal.returns
 returns c =
-    c.after-half-byte-2.ensures
+    c.after_half_byte-2.ensures
     ∙ ap₂ (λ r n. after_bits r (bits 4 n))
-    (c.after-half-byte.ensures ∙ ap (λ n. after_bits c.args.register (bits 4 n)) c.halves-high.ensures.high)
+    (c.after_half_byte.ensures ∙ ap (λ n. after_bits c.args.register (bits 4 n)) c.halves-high.ensures.high)
     c.halves-high.ensures.low
     ∙ sym (whole_byte c.args.register c.args.byte)

@@ -9,5 +9,5 @@ returns c =
     let k = count_of c.args.address_bytes in
     let m = c.args.sent.now in
     c.update.ensures
-    ∙ ap (λ r. after_message r m) (c.after-address.ensures ∙ ap (λ a. after_message start (highest_first k a)) c.place.ensures)
+    ∙ ap (λ r. after_message r m) (c.after_address.ensures ∙ ap (λ a. after_message start (highest_first k a)) c.place.ensures)
     ∙ sym (after_message_append start (highest_first k _) m)

@@ -8,7 +8,7 @@ pub loop-byte-preserved : goal.loop-byte-preserved
 loop-byte-preserved c =
     let m = c.args.message.now in
     let i = c.loop-byte.byte-index in
-    ap (λ r. after_message r (drop (i + 1) m)) c.after-byte-now.ensures
+    ap (λ r. after_message r (drop (i + 1) m)) c.after_byte-now.ensures
     ∙ sym (after_message_cons c.loop-byte.now (get_or m i 0) (drop (i + 1) m))
     ∙ ap (after_message c.loop-byte.now) (sym (drop_more m i 0 c.loop-byte-test.true))
     ∙ c.loop-byte.invariant

@@ -7,7 +7,7 @@ use Rattle.powers.proofs.is_power_of_two.Goals as goal
 pub returns : goal.returns
 returns c =
     let n = c.args.n in
-    let tested = c.is-power-of-two.ensures in record {
+    let tested = c.is_power_of_two.ensures in record {
       digits = tested;
       power = (
         (λ passed. power_of_one_bit n (eqb-true (ones n) 1 (sym tested ∙ passed))),
