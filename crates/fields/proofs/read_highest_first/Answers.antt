@@ -37,15 +37,15 @@ loop-preserved c =
     let m : ℕ = c.args.count - (c.loop.counter + 1) in
     let n = c.loop.number in
     let rest = c.loop.rest.now in
-    let next = c.in-ok-byte.behind.now in
-    let byte = c.in-ok-byte.byte in
-    let more = c.with-byte-number.ensures in (
+    let next = c.in_ok-byte.behind.now in
+    let byte = c.in_ok-byte.byte in
+    let more = c.with_byte-number.ensures in (
       ap (λ k. read_highest_first m k next) more
-          ∙ number_more m n rest byte next c.in-ok-byte.ensures.read
+          ∙ number_more m n rest byte next c.in_ok-byte.ensures.read
           ∙ ap (λ k. read_highest_first k n rest) (one_less c.args.count c.loop.counter c.loop-test.true)
           ∙ c.loop.invariant.0,
       subst (λ k. k < 256 ^ (c.loop.counter + 1)) (sym more)
-          (one_byte_more c.loop.counter n byte c.loop.invariant.1 c.in-ok-byte.ensures.bound),
+          (one_byte_more c.loop.counter n byte c.loop.invariant.1 c.in_ok-byte.ensures.bound),
     )
 
 pub returns : goal.returns

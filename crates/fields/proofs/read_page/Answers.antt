@@ -26,11 +26,11 @@ loop-i-preserved c =
     let i = c.loop-i.i in
     let page = c.loop-i.page in
     let rest = c.loop-i.rest.now in
-    let byte = c.in-ok-byte.byte in
-    let next = c.in-ok-byte.behind.now in
+    let byte = c.in_ok-byte.byte in
+    let next = c.in_ok-byte.behind.now in
     let m : ℕ = 64 - (i + 1) in (
       ap (λ front. behind front (read_bytes m next)) (take_more_set page i byte (omega arith))
-          ∙ page_more m (take i page) rest byte next c.in-ok-byte.ensures.read
+          ∙ page_more m (take i page) rest byte next c.in_ok-byte.ensures.read
           ∙ ap (λ k. behind (take i page) (read_bytes k rest)) (one_less i c.loop-i-test.true)
           ∙ c.loop-i.invariant.0,
       length-set page i byte ∙ c.loop-i.invariant.1,

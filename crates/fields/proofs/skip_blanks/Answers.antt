@@ -7,7 +7,7 @@ use Rattle.fields.proofs.skip_blanks.Goals as goal
 
 pub loop-rest-preserved : goal.loop-rest-preserved
 loop-rest-preserved c =
-    sym (cond-true _ _ _ (sym c.if-not-is-blank.ensures))
+    sym (cond-true _ _ _ (sym c.if-not-is_blank.ensures))
     ∙ sym (ap past_blanks (first_rest c.loop-rest.rest.now 0 (omega (arith, ltb-false))))
     ∙ c.loop-rest.invariant
 
