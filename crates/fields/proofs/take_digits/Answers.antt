@@ -25,7 +25,7 @@ returns c =
       | in_default w ↦ (let none = nil_from_length rest (omega (arith, ltb-true)) in ap (digits n) none ∙ ap (λ l. (n, l)) (sym none))
       | in-len1-up+then-not-is_digit w ↦ (
           let some = first_rest rest 0 (omega (arith, ltb-false)) in
-          ap (digits n) some ∙ cond-false _ _ _ (sym w.is_digit.ensures ∙ w.if-not-is-digit.true) ∙ ap (λ l. (n, l)) (sym some))
+          ap (digits n) some ∙ cond-false _ _ _ (sym w.is_digit.ensures ∙ w.if-not-is_digit.true) ∙ ap (λ l. (n, l)) (sym some))
     ] in
     record {
       value = same ∙ ap (λ p. capped p.0) (sym stopped ∙ inv);
