@@ -10,12 +10,12 @@ from_table c v h e = e ∙ get_or-map-range_with_len worth 0 256 c c 0 h (zero-a
 
 pub returns-then-value-lt16 : goal.returns-then-value-lt16
 returns-then-value-lt16 c =
-    let v = c.digit-value-value.result in
-    let told = from_table c.args.c v c.ranges.c.fits c.digit-value-value.ensures in
+    let v = c.digit_value-value.result in
+    let told = from_table c.args.c v c.ranges.c.fits c.digit_value-value.ensures in
     ap Ok told ∙ sym (cond-true _ _ _ (lt-ltb (digit_value c.args.c) 16 (subst (λ n. n < 16) told c.if-value-lt16.true)))
 
 pub returns-else-value-lt16 : goal.returns-else-value-lt16
 returns-else-value-lt16 c =
-    let v = c.digit-value-value.result in
-    let told = from_table c.args.c v c.ranges.c.fits c.digit-value-value.ensures in
+    let v = c.digit_value-value.result in
+    let told = from_table c.args.c v c.ranges.c.fits c.digit_value-value.ensures in
     sym (cond-false _ _ _ (le-ltb (digit_value c.args.c) 16 (subst (λ n. 16 ≤ n) told c.if-value-lt16.false)))

@@ -16,36 +16,36 @@ one_byte_more : (counter n byte : ℕ) → n < 256 ^ counter → byte < 256 → 
 one_byte_more counter n byte l b =
     let up : 256 ^ (counter + 1) ≡ 256 ^ counter * 256 = ap (λ k. 256 ^ k) (add-one counter) ∙ pow-suc 256 counter in omega arith
 
-pub returns-in-err-byte : goal.returns-in-err-byte
-returns-in-err-byte c =
-    let p = err_from_is_err_and c.from-residual.result c.from-residual.ensures.1 in
+pub returns-in_err-byte : goal.returns-in_err-byte
+returns-in_err-byte c =
+    let p = err_from_is_err_and c.from_residual.result c.from_residual.ensures.1 in
     let n = c.loop.number in
     let rest = c.loop.rest.now in
     rw (p.1, p.2)
     (record {
-      read = number_fails (c.args.count - (c.loop.counter + 1)) n rest _ c.in-err-byte.ensures.read
+      read = number_fails (c.args.count - (c.loop.counter + 1)) n rest _ c.in_err-byte.ensures.read
           ∙ ap (λ k. read_highest_first k n rest) (one_less c.args.count c.loop.counter c.loop-test.true)
           ∙ c.loop.invariant.0;
       bound = tt;
     })
 
-pub with-byte-number-requires : goal.with-byte-number-requires
-with-byte-number-requires c = few c.loop.counter c.loop.number (omega arith) c.loop.invariant.1
+pub with_byte-number-requires : goal.with_byte-number-requires
+with_byte-number-requires c = few c.loop.counter c.loop.number (omega arith) c.loop.invariant.1
 
 pub loop-preserved : goal.loop-preserved
 loop-preserved c =
     let m : ℕ = c.args.count - (c.loop.counter + 1) in
     let n = c.loop.number in
     let rest = c.loop.rest.now in
-    let next = c.in-ok-byte.behind.now in
-    let byte = c.in-ok-byte.byte in
-    let more = c.with-byte-number.ensures in (
+    let next = c.in_ok-byte.behind.now in
+    let byte = c.in_ok-byte.byte in
+    let more = c.with_byte-number.ensures in (
       ap (λ k. read_highest_first m k next) more
-          ∙ number_more m n rest byte next c.in-ok-byte.ensures.read
+          ∙ number_more m n rest byte next c.in_ok-byte.ensures.read
           ∙ ap (λ k. read_highest_first k n rest) (one_less c.args.count c.loop.counter c.loop-test.true)
           ∙ c.loop.invariant.0,
       subst (λ k. k < 256 ^ (c.loop.counter + 1)) (sym more)
-          (one_byte_more c.loop.counter n byte c.loop.invariant.1 c.in-ok-byte.ensures.bound),
+          (one_byte_more c.loop.counter n byte c.loop.invariant.1 c.in_ok-byte.ensures.bound),
     )
 
 pub returns : goal.returns

@@ -11,14 +11,14 @@ one_less i h = omega arith
 pub loop-i-init : goal.loop-i-init
 loop-i-init c = (behind_none (read_bytes 64 c.args.text.now), refl)
 
-pub returns-in-err-byte : goal.returns-in-err-byte
-returns-in-err-byte c =
-    let p = err_from_is_err_and c.from-residual.result c.from-residual.ensures.1 in
+pub returns-in_err-byte : goal.returns-in_err-byte
+returns-in_err-byte c =
+    let p = err_from_is_err_and c.from_residual.result c.from_residual.ensures.1 in
     let i = c.loop-i.i in
     let front = take i c.loop-i.page in
     let rest = c.loop-i.rest.now in
     rw (p.1, p.2)
-    (page_fails (64 - (i + 1)) front rest _ c.in-err-byte.ensures.read
+    (page_fails (64 - (i + 1)) front rest _ c.in_err-byte.ensures.read
     ∙ ap (λ k. behind front (read_bytes k rest)) (one_less i c.loop-i-test.true) ∙ c.loop-i.invariant.0)
 
 pub loop-i-preserved : goal.loop-i-preserved
@@ -26,11 +26,11 @@ loop-i-preserved c =
     let i = c.loop-i.i in
     let page = c.loop-i.page in
     let rest = c.loop-i.rest.now in
-    let byte = c.in-ok-byte.byte in
-    let next = c.in-ok-byte.behind.now in
+    let byte = c.in_ok-byte.byte in
+    let next = c.in_ok-byte.behind.now in
     let m : ℕ = 64 - (i + 1) in (
       ap (λ front. behind front (read_bytes m next)) (take_more_set page i byte (omega arith))
-          ∙ page_more m (take i page) rest byte next c.in-ok-byte.ensures.read
+          ∙ page_more m (take i page) rest byte next c.in_ok-byte.ensures.read
           ∙ ap (λ k. behind (take i page) (read_bytes k rest)) (one_less i c.loop-i-test.true)
           ∙ c.loop-i.invariant.0,
       length-set page i byte ∙ c.loop-i.invariant.1,

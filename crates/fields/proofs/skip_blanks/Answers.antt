@@ -7,11 +7,11 @@ use Rattle.fields.proofs.skip_blanks.Goals as goal
 
 pub loop-rest-preserved : goal.loop-rest-preserved
 loop-rest-preserved c =
-    sym (cond-true _ _ _ (sym c.if-not-is-blank.ensures))
+    sym (cond-true _ _ _ (sym c.if-not-is_blank.ensures))
     ∙ sym (ap past_blanks (first_rest c.loop-rest.rest.now 0 (omega (arith, ltb-false))))
     ∙ c.loop-rest.invariant
 
-pub returns-in-default : goal.returns-in-default
-returns-in-default c =
+pub returns-in_default : goal.returns-in_default
+returns-in_default c =
     let none = nil_from_length c.loop-rest.rest.now (omega (arith, ltb-true)) in
     none ∙ sym (ap past_blanks none) ∙ c.loop-rest.invariant
