@@ -9,7 +9,7 @@ pub returns : goal.returns
 returns c =
     let b = c.args.bytes.now in
     let v = c.args.value in
-    let new = c.fill-front.ensures ∙ ap (λ n. replicate n v ++ drop n b) c.size-size.ensures.size in
+    let new = c.fill_front.ensures ∙ ap (λ n. replicate n v ++ drop n b) c.size-size.ensures.size in
     let left = new_working b _ _ new (length-replicate (size_in b) v) in
     record {
       left = left;

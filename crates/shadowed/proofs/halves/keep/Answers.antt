@@ -11,5 +11,5 @@ returns c =
     let lt : p < pages_in (length b) = omega arith in
     record {
       answer = cond_below p (pages_in (length b)) _ _ lt;
-      left = kept b _ p lt (c.copy-page.ensures ∙ ap (λ n. copied (64 * p) (n + 64 * p) b) c.size-size.ensures.size);
+      left = kept b _ p lt (c.copy_page.ensures ∙ ap (λ n. copied (64 * p) (n + 64 * p) b) c.size-size.ensures.size);
     }

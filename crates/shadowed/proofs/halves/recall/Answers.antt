@@ -11,5 +11,5 @@ returns c =
     let lt : p < pages_in (length b) = omega arith in
     record {
       answer = cond_below p (pages_in (length b)) _ _ lt;
-      left = recalled b _ p lt (c.copy-page.ensures ∙ ap (λ n. copied (n + 64 * p) (64 * p) b) c.size-size.ensures.size);
+      left = recalled b _ p lt (c.copy_page.ensures ∙ ap (λ n. copied (n + 64 * p) (64 * p) b) c.size-size.ensures.size);
     }
