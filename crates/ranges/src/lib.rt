@@ -8,7 +8,7 @@ use dialect::Dialect;
 
 // Whether `status_bits` are within the mask and protect the range that `lead` protects.
 pub fn shares_row<D: Dialect>(lead: u8, status_bits: u8, size: usize) -> bool
-    ensures { Decides result (Shares facts size lead status_bits) }
+    ensures { Decides result (Shares D.facts size lead status_bits) }
 {
     let mask = D::mask();
     let (first, end) = D::protected(status_bits, size);
@@ -18,7 +18,7 @@ pub fn shares_row<D: Dialect>(lead: u8, status_bits: u8, size: usize) -> bool
 
 // Whether `status_bits` are the smallest within the mask that protect their range.
 pub fn opens_row<D: Dialect>(status_bits: u8, size: usize) -> bool
-    ensures { Decides result (Opens facts size status_bits) }
+    ensures { Decides result (Opens D.facts size status_bits) }
 {
     if status_bits & D::mask() != status_bits {
         return false;

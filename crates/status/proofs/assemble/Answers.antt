@@ -9,5 +9,5 @@ join-requires g c =
     let f = g.D.Dialect.facts in
     let R = c.masked-kept.result in
     let within : Within f R = cc in
-    subst (Apart R) (sym c.fail-part-fail.ensures)
-    (apart_if c.args.fail-mark R f.fail_bit (apart f g.met.D.Dialect.lawful R within))
+    subst (Apart R) (sym c.fail_part-fail.ensures)
+    (apart_if c.args.fail_mark R f.fail_bit (apart f g.met.D.Dialect.lawful R within))

@@ -3,7 +3,7 @@ use Rattle.dialect.proofs.Dialect.is_alive.Goals as goal
 
 pub returns-then-size-largest : goal.returns-then-size-largest
 returns-then-size-largest g c =
-    let power = c.is-power-of-two.ensures.power in (
+    let power = c.is_power_of_two.ensures.power in (
       (λ passed.
           let (k, e) = power.0 passed in
           record {
