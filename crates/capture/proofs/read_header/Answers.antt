@@ -2,25 +2,25 @@ use Rattle.std.proofs.Common.{arith}
 use Rattle.capture.specs.Frame.{read_header}
 use Rattle.capture.proofs.read_header.Goals as goal
 
-pub returns-in-err-expect-something : goal.returns-in-err-expect-something
+pub returns-in_err-expect_something : goal.returns-in_err-expect_something
 unfolding read_header
-returns-in-err-expect-something c = grind arith
+returns-in_err-expect_something c = grind arith
 
-pub returns-in-err-number : goal.returns-in-err-number
+pub returns-in_err-number : goal.returns-in_err-number
 unfolding read_header
-returns-in-err-number c = grind arith
+returns-in_err-number c = grind arith
 
-pub returns-in-err-count : goal.returns-in-err-count
+pub returns-in_err-count : goal.returns-in_err-count
 unfolding read_header
-returns-in-err-count c = grind arith
+returns-in_err-count c = grind arith
 
-pub returns-in-err-address-bytes : goal.returns-in-err-address-bytes
+pub returns-in_err-address_bytes : goal.returns-in_err-address_bytes
 unfolding read_header
-returns-in-err-address-bytes c = grind arith
+returns-in_err-address_bytes c = grind arith
 
-pub returns-in-err-size : goal.returns-in-err-size
+pub returns-in_err-size : goal.returns-in_err-size
 unfolding read_header
-returns-in-err-size c = grind arith
+returns-in_err-size c = grind arith
 
 pub returns : goal.returns
 unfolding read_header

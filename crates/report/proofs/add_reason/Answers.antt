@@ -2,4 +2,4 @@ use Rattle.std.proofs.Common.{rules}
 use Rattle.report.proofs.add_reason.Goals as goal
 
 pub returns : goal.returns
-returns c = rw c.reason-of-words.ensures at c.write.ensures.bytes
+returns c = rw c.reason_of-words.ensures at c.write.ensures.bytes
