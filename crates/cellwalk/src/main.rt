@@ -53,9 +53,9 @@ const WALK: [Step; 9] = [
 
 // Takes one step over any array.
 fn take<C: Cells>(cells: &mut C, step: Step) -> Result<(), Refusal>
-    ensures answer { numbered result ≡ answer_to (site cells.old).pages step }
-    ensures images { Leaves lasting (site cells.old).pages step (images cells.old) (images cells.new) }
-    ensures site { site cells.new ≡ site cells.old }
+    ensures answer { numbered result ≡ answer_to (C.site cells.old).pages step }
+    ensures images { Leaves C.lasting (C.site cells.old).pages step (C.images cells.old) (C.images cells.new) }
+    ensures site { C.site cells.new ≡ C.site cells.old }
 {
     match step {
         Step::Put(at, byte) => cells.put(at, byte),
