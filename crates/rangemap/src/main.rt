@@ -8,7 +8,7 @@ use std::{env, io};
 
 // One row. The laws of the range say that the subtraction does not wrap.
 fn print_row<D: Dialect>(rt: &HostRuntime, lead: u8, size: usize) -> io::Result<()>
-    requires { (Within facts lead) × (Alive facts size) }
+    requires { (Within D.facts lead) × (Alive D.facts size) }
 {
     let (first, end) = D::protected(lead, size);
     let bytes = end - first;

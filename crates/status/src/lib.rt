@@ -13,7 +13,7 @@ use dialect::Dialect;
 // The byte that reading the status drives: the mask bits of `status_bits`, the fail bit if the fail mark is set, 2 if the
 // latch is set, and 1 unless the part is idle. In a part the status bits are within the mask, so none is lost.
 pub fn assemble<D: Dialect>(status_bits: u8, fail_mark: bool, latch: bool, idle: bool) -> u8
-    ensures { result ≡ status_byte facts (mask_bits facts status_bits) fail_mark latch idle }
+    ensures { result ≡ status_byte D.facts (mask_bits D.facts status_bits) fail_mark latch idle }
 {
     let kept = masked(status_bits, D::mask());
     let fail = fail_part::<D>(fail_mark);
@@ -22,8 +22,8 @@ pub fn assemble<D: Dialect>(status_bits: u8, fail_mark: bool, latch: bool, idle:
 
 // The status bits after `byte` is written: its mask bits.
 pub fn update<D: Dialect>(byte: u8) -> u8
-    ensures value { result ≡ mask_bits facts byte }
-    ensures within { Within facts result }
+    ensures value { result ≡ mask_bits D.facts byte }
+    ensures within { Within D.facts result }
 {
     masked(byte, D::mask())
 }
@@ -35,7 +35,7 @@ pub fn bits_never_collide()
 
 // The fail bit if the fail mark is set, else 0.
 fn fail_part<D: Dialect>(fail_mark: bool) -> u8
-    ensures { result ≡ cond fail_mark facts.fail_bit 0 }
+    ensures { result ≡ cond fail_mark D.facts.fail_bit 0 }
 {
     if fail_mark { D::fail_bit() } else { 0 }
 }
