@@ -7,6 +7,7 @@ ghost use Rattle.report.specs.Report.{figure, sum_text, word, reason, verdict_te
 
 use capture::Verdict;
 use fields::Unreadable;
+use std::alloc::AllocError;
 use std::fmt;
 
 fn is_line_feed(c: u8) -> bool
@@ -117,7 +118,7 @@ fn reason_of(why: Unreadable) -> &'static str
     }
 }
 
-fn add_verdict(out: &mut String, number: u64, verdict: Verdict) -> fmt::Result
+fn add_verdict(out: &mut String, number: u64, verdict: Verdict) -> Result<(), AllocError>
     ensures { OnOk result (string_bytes out.new ≡ string_bytes out.old ++ verdict_text number verdict) }
 {
     let word = word_of(verdict.right);
@@ -131,7 +132,7 @@ fn add_verdict(out: &mut String, number: u64, verdict: Verdict) -> fmt::Result
     )
 }
 
-fn add_reason(out: &mut String, number: u64, why: Unreadable) -> fmt::Result
+fn add_reason(out: &mut String, number: u64, why: Unreadable) -> Result<(), AllocError>
     ensures { OnOk result (string_bytes out.new ≡ string_bytes out.old ++ reason_text number why) }
 {
     let words = reason_of(why);
@@ -139,7 +140,7 @@ fn add_reason(out: &mut String, number: u64, why: Unreadable) -> fmt::Result
 }
 
 // Adds to a text what is printed of a line. Fails where memory does.
-pub fn add_line(out: &mut String, number: u64, examined: Result<Verdict, Unreadable>) -> fmt::Result
+pub fn add_line(out: &mut String, number: u64, examined: Result<Verdict, Unreadable>) -> Result<(), AllocError>
     ensures { OnOk result (string_bytes out.new ≡ string_bytes out.old ++ line_text number examined) }
 {
     match examined {
@@ -149,7 +150,7 @@ pub fn add_line(out: &mut String, number: u64, examined: Result<Verdict, Unreada
 }
 
 // Adds to a text how many lines were right, wrong and unreadable.
-pub fn add_tally(out: &mut String, tally: &Tally) -> fmt::Result
+pub fn add_tally(out: &mut String, tally: &Tally) -> Result<(), AllocError>
     ensures { OnOk result (string_bytes out.new ≡ string_bytes out.old ++ tally_text tally.now) }
 {
     let right = tally.right;

@@ -5,10 +5,10 @@ use Rattle.detect.proofs.ends_with_sum.Goals as goal
 pub returns : goal.returns
 returns c =
     let m = c.args.message.now in
-    let r = c.ends-at-zero.result in
-    let exactly = ends_exactly m r (λ i. (c.type-inv.message i).fits) c.ends-at-zero.ensures in
+    let r = c.ends_at_zero.result in
+    let exactly = ends_exactly m r (λ i. (c.type_inv.message i).fits) c.ends_at_zero.ensures in
     record {
       exact = exactly;
-      register-is-zero = c.ends-at-zero.ensures;
-      short-burst-is-caught = λ sent s b. not_when_refuted r (EndsWithSum m) exactly (burst_is_caught sent m s b);
+      register_is_zero = c.ends_at_zero.ensures;
+      short_burst_is_caught = λ sent s b. not_when_refuted r (EndsWithSum m) exactly (burst_is_caught sent m s b);
     }
