@@ -3,7 +3,7 @@ use Rattle.std.proofs.Common.{◌≡◌, ◌+◌, ◌*◌, ◌++◌, take, vec_i
 use Rattle.benchlines.specs.Lines.{all_driven_text}
 use Rattle.benchlines.proofs.add_all_driven.Given as goal
 
-abbrev pub invariant-loop-at-byte : goal.invariant-loop-at-byte
-invariant-loop-at-byte l =
-    (vec_items l.out ≡ vec_items l.initial.out ++ all_driven_text (take l.at-byte-index l.driven))
-    × (vec_len l.out ≡ vec_len l.initial.out + 3 * l.at-byte-index) × (vec_capacity l.out ≡ vec_capacity l.initial.out)
+abbrev pub invariant-loop-at_byte : goal.invariant-loop-at_byte
+invariant-loop-at_byte l =
+    (vec_items l.out ≡ vec_items l.initial.out ++ all_driven_text (take l.at_byte-index l.driven))
+    × (vec_len l.out ≡ vec_len l.initial.out + 3 * l.at_byte-index) × (vec_capacity l.out ≡ vec_capacity l.initial.out)

@@ -7,12 +7,12 @@ loop-byte-preserved c =
     let was = vec_items c.args.out.now in
     let bytes = c.args.bytes.now in
     let i = c.loop-byte.byte-index in (
-      c.push-reserved.ensures.items
+      c.push_reserved.ensures.items
           ∙ ap (λ (l : List ℕ). l ++ (get_or bytes i 0 ∷ [])) c.loop-byte.invariant.0
           ∙ append_assoc was (take i bytes) (get_or bytes i 0 ∷ [])
           ∙ ap (λ (l : List ℕ). was ++ l) (sym (take_more bytes i 0 c.loop-byte-test.true)),
-      omega (arith, c.push-reserved.ensures.len),
-      c.push-reserved.ensures.capacity ∙ c.loop-byte.invariant.2,
+      omega (arith, c.push_reserved.ensures.len),
+      c.push_reserved.ensures.capacity ∙ c.loop-byte.invariant.2,
     )
 
 pub returns : goal.returns

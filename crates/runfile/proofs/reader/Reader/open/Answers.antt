@@ -3,8 +3,8 @@ use Rattle.runfile.specs.Table.{count_of}
 use Rattle.runfile.proofs.Opening.{passed, stopped, no_table, all_passed, earliest_next}
 use Rattle.runfile.proofs.reader.Reader.open.Goals as goal
 
-pub returns-in-default : goal.returns-in-default
-returns-in-default c = no_table c.args.file.now c.in-default.ensures ∙ ap Some (sym c.from.ensures)
+pub returns-in_default : goal.returns-in_default
+returns-in_default c = no_table c.args.file.now c.in_default.ensures ∙ ap Some (sym c.from.ensures)
 
 pub returns-in-Err : goal.returns-in-Err
 returns-in-Err c =
