@@ -33,7 +33,7 @@ pub(crate) fn modulo(bytes: &[u8], size: u32) -> u32
 
 // The phase behind a complete address.
 fn locate<D: Dialect>(instruction: Instruction, at: u32, size: u32) -> Phase
-    ensures { phase_of result ≡ located (kind_for facts size) instruction at }
+    ensures { phase_of result ≡ located (kind_for D.facts size) instruction at }
 {
     match instruction {
         Instruction::Write if D::is_direct() => Phase::WritingDirect(DirectWrite {
@@ -64,7 +64,7 @@ pub(crate) fn address<D: Dialect>(
     size: u32,
 ) -> Phase
     requires { 0 < size }
-    ensures { phase_of result ≡ (if nat_lt (length (items held.now) + 1) facts.address_bytes then address instruction (items held.now ++ (byte ∷ [])) else located (kind_for facts size) instruction (number (items held.now ++ (byte ∷ [])) % size)) }
+    ensures { phase_of result ≡ (if nat_lt (length (items held.now) + 1) D.facts.address_bytes then address instruction (items held.now ++ (byte ∷ [])) else located (kind_for D.facts size) instruction (number (items held.now ++ (byte ∷ [])) % size)) }
 {
     if held.count() + 1 < D::address_length() {
         let mut held = *held;

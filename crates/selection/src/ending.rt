@@ -64,9 +64,9 @@ struct Accepted {
 
 // Accepts what the buffer of a paged write holds.
 fn accept_held<D: Dialect, C: Cells>(cells: &mut C, status_bits: u8, write: &PageWrite) -> Accepted
-    ensures blocked { result.blocked ≡ (if has_bytes (items write.now.held) then write.now.blocked || page_protected (kind_of facts lasting (site cells.old)) status_bits write.now.page else write.now.blocked) }
-    ensures wrote { (written : Bool) → (result.wrote || written) ≡ marked (accepted (kind_of facts lasting (site cells.old)) status_bits write.now.page write.now.first (items write.now.held)) written }
-    ensures done { Done (kind_of facts lasting (site cells.old)) (accepted (kind_of facts lasting (site cells.old)) status_bits write.now.page write.now.first (items write.now.held)) (images cells.old) (site cells.old) (images cells.new) (site cells.new) }
+    ensures blocked { result.blocked ≡ (if has_bytes (items write.now.held) then write.now.blocked || page_protected (kind_of D.facts C.lasting (C.site cells.old)) status_bits write.now.page else write.now.blocked) }
+    ensures wrote { (written : Bool) → (result.wrote || written) ≡ marked (accepted (kind_of D.facts C.lasting (C.site cells.old)) status_bits write.now.page write.now.first (items write.now.held)) written }
+    ensures done { Done (kind_of D.facts C.lasting (C.site cells.old)) (accepted (kind_of D.facts C.lasting (C.site cells.old)) status_bits write.now.page write.now.first (items write.now.held)) (C.images cells.old) (C.site cells.old) (C.images cells.new) (C.site cells.new) }
 {
     let here = accept::<D, C>(
         cells,
@@ -88,9 +88,9 @@ fn end_paged<D: Dialect, C: Cells>(
     write: &PageWrite,
     cells: &mut C,
 ) -> Result<(), Refusal>
-    ensures answer { refusal_of result ≡ (paged_ended (kind_of facts lasting (site cells.old)) (state_of control.old unselected) write.now.page write.now.first (items write.now.held) write.now.blocked).refusal }
-    ensures control { state_of control.new unselected ≡ (ended_out (paged_ended (kind_of facts lasting (site cells.old)) (state_of control.old unselected) write.now.page write.now.first (items write.now.held) write.now.blocked)).state }
-    ensures done { Done (kind_of facts lasting (site cells.old)) (paged_ended (kind_of facts lasting (site cells.old)) (state_of control.old unselected) write.now.page write.now.first (items write.now.held) write.now.blocked).events (images cells.old) (site cells.old) (images cells.new) (site cells.new) }
+    ensures answer { refusal_of result ≡ (paged_ended (kind_of D.facts C.lasting (C.site cells.old)) (state_of control.old unselected) write.now.page write.now.first (items write.now.held) write.now.blocked).refusal }
+    ensures control { state_of control.new unselected ≡ (ended_out (paged_ended (kind_of D.facts C.lasting (C.site cells.old)) (state_of control.old unselected) write.now.page write.now.first (items write.now.held) write.now.blocked)).state }
+    ensures done { Done (kind_of D.facts C.lasting (C.site cells.old)) (paged_ended (kind_of D.facts C.lasting (C.site cells.old)) (state_of control.old unselected) write.now.page write.now.first (items write.now.held) write.now.blocked).events (C.images cells.old) (C.site cells.old) (C.images cells.new) (C.site cells.new) }
 {
     let accepted = accept_held::<D, C>(cells, control.status_bits, write);
     control.latch = false;
@@ -104,8 +104,8 @@ fn end_paged<D: Dialect, C: Cells>(
 
 // Whether a frame of the right length has the sum of its page transfer.
 fn fits<D: Dialect>(frame: &[u8], size: u32) -> bool
-    requires { (length frame.now ≡ facts.address_bytes + 66) × (64 ≤ size) }
-    ensures { result ≡ is_right (kind_for facts size) frame.now }
+    requires { (length frame.now ≡ D.facts.address_bytes + 66) × (64 ≤ size) }
+    ensures { result ≡ is_right (kind_for D.facts size) frame.now }
 {
     let k = D::address_length();
     let place = modulo(&frame[0..k], size);
@@ -121,10 +121,10 @@ fn end_frame<D: Dialect, C: Cells>(
     cells: &mut C,
     size: u32,
 ) -> Result<(), Refusal>
-    requires { (length frame.now ≡ facts.address_bytes + 66) × ((size ≡ 64 * (site cells.old).pages) × (64 ≤ size)) }
-    ensures answer { refusal_of result ≡ (frame_ended (kind_of facts lasting (site cells.old)) (state_of control.old unselected) frame.now).refusal }
-    ensures control { state_of control.new unselected ≡ (ended_out (frame_ended (kind_of facts lasting (site cells.old)) (state_of control.old unselected) frame.now)).state }
-    ensures done { Done (kind_of facts lasting (site cells.old)) (frame_ended (kind_of facts lasting (site cells.old)) (state_of control.old unselected) frame.now).events (images cells.old) (site cells.old) (images cells.new) (site cells.new) }
+    requires { (length frame.now ≡ D.facts.address_bytes + 66) × ((size ≡ 64 * (C.site cells.old).pages) × (64 ≤ size)) }
+    ensures answer { refusal_of result ≡ (frame_ended (kind_of D.facts C.lasting (C.site cells.old)) (state_of control.old unselected) frame.now).refusal }
+    ensures control { state_of control.new unselected ≡ (ended_out (frame_ended (kind_of D.facts C.lasting (C.site cells.old)) (state_of control.old unselected) frame.now)).state }
+    ensures done { Done (kind_of D.facts C.lasting (C.site cells.old)) (frame_ended (kind_of D.facts C.lasting (C.site cells.old)) (state_of control.old unselected) frame.now).events (C.images cells.old) (C.site cells.old) (C.images cells.new) (C.site cells.new) }
 {
     control.latch = false;
     if !fits::<D>(frame, size) {
@@ -156,10 +156,10 @@ pub fn end<D: Dialect, C: Cells>(
     size: u32,
     clocks: u8,
 ) -> Result<(), Refusal>
-    ensures answer { size ≡ 64 * (site cells.old).pages → 64 ≤ size → refusal_of result ≡ (ended (kind_of facts lasting (site cells.old)) (state_of control.old unselected) (phase_of phase.now) clocks).refusal }
-    ensures control { size ≡ 64 * (site cells.old).pages → 64 ≤ size → state_of control.new unselected ≡ (ended_out (ended (kind_of facts lasting (site cells.old)) (state_of control.old unselected) (phase_of phase.now) clocks)).state }
-    ensures done { size ≡ 64 * (site cells.old).pages → 64 ≤ size → Done (kind_of facts lasting (site cells.old)) (ended (kind_of facts lasting (site cells.old)) (state_of control.old unselected) (phase_of phase.now) clocks).events (images cells.old) (site cells.old) (images cells.new) (site cells.new) }
-    ensures misfit { (size ≡ 64 * (site cells.old).pages → 64 ≤ size → ⊥) → Denied (refusal_of result) control.old control.new (images cells.old) (images cells.new) (site cells.old) (site cells.new) }
+    ensures answer { size ≡ 64 * (C.site cells.old).pages → 64 ≤ size → refusal_of result ≡ (ended (kind_of D.facts C.lasting (C.site cells.old)) (state_of control.old unselected) (phase_of phase.now) clocks).refusal }
+    ensures control { size ≡ 64 * (C.site cells.old).pages → 64 ≤ size → state_of control.new unselected ≡ (ended_out (ended (kind_of D.facts C.lasting (C.site cells.old)) (state_of control.old unselected) (phase_of phase.now) clocks)).state }
+    ensures done { size ≡ 64 * (C.site cells.old).pages → 64 ≤ size → Done (kind_of D.facts C.lasting (C.site cells.old)) (ended (kind_of D.facts C.lasting (C.site cells.old)) (state_of control.old unselected) (phase_of phase.now) clocks).events (C.images cells.old) (C.site cells.old) (C.images cells.new) (C.site cells.new) }
+    ensures misfit { (size ≡ 64 * (C.site cells.old).pages → 64 ≤ size → ⊥) → Denied (refusal_of result) control.old control.new (C.images cells.old) (C.images cells.new) (C.site cells.old) (C.site cells.new) }
 {
     if size < 64 || cells.size() != size as usize {
         return Err(Refusal::Dead);
@@ -175,10 +175,10 @@ fn end_sized<D: Dialect, C: Cells>(
     size: u32,
     clocks: u8,
 ) -> Result<(), Refusal>
-    requires { (size ≡ 64 * (site cells.old).pages) × (64 ≤ size) }
-    ensures answer { refusal_of result ≡ (ended (kind_of facts lasting (site cells.old)) (state_of control.old unselected) (phase_of phase.now) clocks).refusal }
-    ensures control { state_of control.new unselected ≡ (ended_out (ended (kind_of facts lasting (site cells.old)) (state_of control.old unselected) (phase_of phase.now) clocks)).state }
-    ensures done { Done (kind_of facts lasting (site cells.old)) (ended (kind_of facts lasting (site cells.old)) (state_of control.old unselected) (phase_of phase.now) clocks).events (images cells.old) (site cells.old) (images cells.new) (site cells.new) }
+    requires { (size ≡ 64 * (C.site cells.old).pages) × (64 ≤ size) }
+    ensures answer { refusal_of result ≡ (ended (kind_of D.facts C.lasting (C.site cells.old)) (state_of control.old unselected) (phase_of phase.now) clocks).refusal }
+    ensures control { state_of control.new unselected ≡ (ended_out (ended (kind_of D.facts C.lasting (C.site cells.old)) (state_of control.old unselected) (phase_of phase.now) clocks)).state }
+    ensures done { Done (kind_of D.facts C.lasting (C.site cells.old)) (ended (kind_of D.facts C.lasting (C.site cells.old)) (state_of control.old unselected) (phase_of phase.now) clocks).events (C.images cells.old) (C.site cells.old) (C.images cells.new) (C.site cells.new) }
 {
     match phase {
         Phase::Opcode => Err(Refusal::NoByte),

@@ -35,11 +35,11 @@ pub fn hear<D: Dialect, C: Cells>(
     size: u32,
     value: u8,
 ) -> Heard
-    ensures phase { size ≡ 64 * (site cells.old).pages → 64 ≤ size → phase_of phase.new ≡ (heard (kind_of facts lasting (site cells.old)) (state_of control.now unselected) activity (phase_of phase.old) value).phase }
-    ensures driven { size ≡ 64 * (site cells.old).pages → 64 ≤ size → result.driven ≡ driven-byte (kind_of facts lasting (site cells.old)) (images cells.old).working (heard (kind_of facts lasting (site cells.old)) (state_of control.now unselected) activity (phase_of phase.old) value).drive }
-    ensures wrote { size ≡ 64 * (site cells.old).pages → 64 ≤ size → result.wrote ≡ marked (heard (kind_of facts lasting (site cells.old)) (state_of control.now unselected) activity (phase_of phase.old) value).events false }
-    ensures done { size ≡ 64 * (site cells.old).pages → 64 ≤ size → Done (kind_of facts lasting (site cells.old)) (heard (kind_of facts lasting (site cells.old)) (state_of control.now unselected) activity (phase_of phase.old) value).events (images cells.old) (site cells.old) (images cells.new) (site cells.new) }
-    ensures misfit { (size ≡ 64 * (site cells.old).pages → 64 ≤ size → ⊥) → Ignored phase.old phase.new result.driven result.wrote (images cells.old) (images cells.new) (site cells.old) (site cells.new) }
+    ensures phase { size ≡ 64 * (C.site cells.old).pages → 64 ≤ size → phase_of phase.new ≡ (heard (kind_of D.facts C.lasting (C.site cells.old)) (state_of control.now unselected) activity (phase_of phase.old) value).phase }
+    ensures driven { size ≡ 64 * (C.site cells.old).pages → 64 ≤ size → result.driven ≡ driven-byte (kind_of D.facts C.lasting (C.site cells.old)) (C.images cells.old).working (heard (kind_of D.facts C.lasting (C.site cells.old)) (state_of control.now unselected) activity (phase_of phase.old) value).drive }
+    ensures wrote { size ≡ 64 * (C.site cells.old).pages → 64 ≤ size → result.wrote ≡ marked (heard (kind_of D.facts C.lasting (C.site cells.old)) (state_of control.now unselected) activity (phase_of phase.old) value).events false }
+    ensures done { size ≡ 64 * (C.site cells.old).pages → 64 ≤ size → Done (kind_of D.facts C.lasting (C.site cells.old)) (heard (kind_of D.facts C.lasting (C.site cells.old)) (state_of control.now unselected) activity (phase_of phase.old) value).events (C.images cells.old) (C.site cells.old) (C.images cells.new) (C.site cells.new) }
+    ensures misfit { (size ≡ 64 * (C.site cells.old).pages → 64 ≤ size → ⊥) → Ignored phase.old phase.new result.driven result.wrote (C.images cells.old) (C.images cells.new) (C.site cells.old) (C.site cells.new) }
 {
     if size < 64 || cells.size() != size as usize {
         return Heard {
@@ -59,11 +59,11 @@ fn hear_sized<D: Dialect, C: Cells>(
     size: u32,
     value: u8,
 ) -> Heard
-    requires { (size ≡ 64 * (site cells.old).pages) × (64 ≤ size) }
-    ensures phase { phase_of phase.new ≡ (heard (kind_of facts lasting (site cells.old)) (state_of control.now unselected) activity (phase_of phase.old) value).phase }
-    ensures driven { result.driven ≡ driven-byte (kind_of facts lasting (site cells.old)) (images cells.old).working (heard (kind_of facts lasting (site cells.old)) (state_of control.now unselected) activity (phase_of phase.old) value).drive }
-    ensures wrote { result.wrote ≡ marked (heard (kind_of facts lasting (site cells.old)) (state_of control.now unselected) activity (phase_of phase.old) value).events false }
-    ensures done { Done (kind_of facts lasting (site cells.old)) (heard (kind_of facts lasting (site cells.old)) (state_of control.now unselected) activity (phase_of phase.old) value).events (images cells.old) (site cells.old) (images cells.new) (site cells.new) }
+    requires { (size ≡ 64 * (C.site cells.old).pages) × (64 ≤ size) }
+    ensures phase { phase_of phase.new ≡ (heard (kind_of D.facts C.lasting (C.site cells.old)) (state_of control.now unselected) activity (phase_of phase.old) value).phase }
+    ensures driven { result.driven ≡ driven-byte (kind_of D.facts C.lasting (C.site cells.old)) (C.images cells.old).working (heard (kind_of D.facts C.lasting (C.site cells.old)) (state_of control.now unselected) activity (phase_of phase.old) value).drive }
+    ensures wrote { result.wrote ≡ marked (heard (kind_of D.facts C.lasting (C.site cells.old)) (state_of control.now unselected) activity (phase_of phase.old) value).events false }
+    ensures done { Done (kind_of D.facts C.lasting (C.site cells.old)) (heard (kind_of D.facts C.lasting (C.site cells.old)) (state_of control.now unselected) activity (phase_of phase.old) value).events (C.images cells.old) (C.site cells.old) (C.images cells.new) (C.site cells.new) }
 {
     let mut driven = None;
     let mut wrote = false;
@@ -123,7 +123,7 @@ fn hear_sized<D: Dialect, C: Cells>(
 
 // The status byte of this moment.
 fn status_now<D: Dialect>(control: &Control, activity: Activity) -> u8
-    ensures { result ≡ status_byte facts (mask_bits facts control.now.status_bits) control.now.failed control.now.latch (is_idle activity) }
+    ensures { result ≡ status_byte D.facts (mask_bits D.facts control.now.status_bits) control.now.failed control.now.latch (is_idle activity) }
 {
     let idle = match activity {
         Activity::Idle => true,
@@ -134,8 +134,8 @@ fn status_now<D: Dialect>(control: &Control, activity: Activity) -> u8
 
 // One more byte of a secure frame. Answers whether the frame has room for it; else nothing changes.
 fn gather<D: Dialect>(held: &mut Held, byte: u8) -> bool
-    ensures room { result ≡ nat_lt (length (items held.old)) (facts.address_bytes + 66) }
-    ensures held { items held.new ≡ (if ltb (length (items held.old)) (facts.address_bytes + 66) then items held.old ++ (byte ∷ []) else items held.old) }
+    ensures room { result ≡ nat_lt (length (items held.old)) (D.facts.address_bytes + 66) }
+    ensures held { items held.new ≡ (if ltb (length (items held.old)) (D.facts.address_bytes + 66) then items held.old ++ (byte ∷ []) else items held.old) }
 {
     let room = held.count() < D::address_length() + 66;
     if room {

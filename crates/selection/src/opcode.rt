@@ -57,7 +57,7 @@ fn busy(instruction: Option<Instruction>) -> Phase
 // Decodes the opcode: 11 if the part is busy, then 12 if it names no instruction, then 13 if it names a write and the latch
 // is clear.
 pub(crate) fn open<D: Dialect>(activity: Activity, latch: bool, opcode: u8) -> Phase
-    ensures { phase_of result ≡ opened activity latch (facts.decode opcode) }
+    ensures { phase_of result ≡ opened activity latch (D.facts.decode opcode) }
 {
     let named = D::decode(opcode);
     match (activity, named) {

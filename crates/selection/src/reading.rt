@@ -11,7 +11,7 @@ use dialect::Dialect;
 
 // The working byte at an address.
 pub(crate) fn read<C: Cells>(cells: &C, at: usize) -> u8
-    ensures { result ≡ slice_index (images cells.now).working at }
+    ensures { result ≡ slice_index (C.images cells.now).working at }
 {
     match cells.get(at) {
         Ok(byte) => byte,
@@ -21,7 +21,7 @@ pub(crate) fn read<C: Cells>(cells: &C, at: usize) -> u8
 
 // How many bytes an address has, as the sum takes it.
 pub(crate) fn address_bytes<D: Dialect>() -> AddressBytes
-    ensures { count_of result ≡ facts.address_bytes }
+    ensures { count_of result ≡ D.facts.address_bytes }
 {
     match D::address_length() {
         2 => AddressBytes::Two,
@@ -31,8 +31,8 @@ pub(crate) fn address_bytes<D: Dialect>() -> AddressBytes
 
 // The sum that a secure read from an address sends.
 fn sum<D: Dialect, C: Cells>(cells: &C, from: u32, size: u32) -> u16
-    requires { size ≡ 64 * (site cells.now).pages }
-    ensures { result ≡ secure_sum (kind_of facts lasting (site cells.now)) (images cells.now).working from }
+    requires { size ≡ 64 * (C.site cells.now).pages }
+    ensures { result ≡ secure_sum (kind_of D.facts C.lasting (C.site cells.now)) (C.images cells.now).working from }
 {
     let base = (from / 64) as usize * 64;
     let offset = (from % 64) as usize;
@@ -51,8 +51,8 @@ pub(crate) fn drive_secure<D: Dialect, C: Cells>(
     driven: u8,
     size: u32,
 ) -> Option<u8>
-    requires { size ≡ 64 * (site cells.now).pages }
-    ensures { result ≡ driven-byte (kind_of facts lasting (site cells.now)) (images cells.now).working (secure_drive from driven) }
+    requires { size ≡ 64 * (C.site cells.now).pages }
+    ensures { result ≡ driven-byte (kind_of D.facts C.lasting (C.site cells.now)) (C.images cells.now).working (secure_drive from driven) }
 {
     match driven {
         0..=63 => Some(read(

@@ -10,7 +10,7 @@ use dialect::Dialect;
 
 // Whether an address lies in the range that these status bits protect.
 pub(crate) fn is_protected<D: Dialect>(status_bits: u8, size: usize, at: usize) -> bool
-    ensures { result ≡ in_range (facts.range status_bits size) at }
+    ensures { result ≡ in_range (D.facts.range status_bits size) at }
 {
     let (first, end) = D::protected(status_bits, size);
     first <= at && at < end
@@ -18,14 +18,14 @@ pub(crate) fn is_protected<D: Dialect>(status_bits: u8, size: usize, at: usize) 
 
 // Puts a byte; past the array's end nothing changes.
 pub(crate) fn put<D: Dialect, C: Cells>(cells: &mut C, at: usize, byte: u8)
-    ensures { Done (kind_of facts lasting (site cells.old)) (put at byte ∷ []) (images cells.old) (site cells.old) (images cells.new) (site cells.new) }
+    ensures { Done (kind_of D.facts C.lasting (C.site cells.old)) (put at byte ∷ []) (C.images cells.old) (C.site cells.old) (C.images cells.new) (C.site cells.new) }
 {
     let _ = cells.put(at, byte);
 }
 
 // Puts bytes into a page, from an offset on, rolling over at the page's end.
 fn place<D: Dialect, C: Cells>(cells: &mut C, page: u32, offset: u8, bytes: &[u8])
-    ensures { Done (kind_of facts lasting (site cells.old)) (placed page offset bytes.now) (images cells.old) (site cells.old) (images cells.new) (site cells.new) }
+    ensures { Done (kind_of D.facts C.lasting (C.site cells.old)) (placed page offset bytes.now) (C.images cells.old) (C.site cells.old) (C.images cells.new) (C.site cells.new) }
 {
     let base = page as usize * 64;
     let offset = offset as usize;
@@ -42,8 +42,8 @@ pub(crate) fn accept<D: Dialect, C: Cells>(
     offset: u8,
     bytes: &[u8],
 ) -> bool
-    ensures blocked { result ≡ page_protected (kind_of facts lasting (site cells.old)) status_bits page }
-    ensures done { Done (kind_of facts lasting (site cells.old)) (accepted (kind_of facts lasting (site cells.old)) status_bits page offset bytes.now) (images cells.old) (site cells.old) (images cells.new) (site cells.new) }
+    ensures blocked { result ≡ page_protected (kind_of D.facts C.lasting (C.site cells.old)) status_bits page }
+    ensures done { Done (kind_of D.facts C.lasting (C.site cells.old)) (accepted (kind_of D.facts C.lasting (C.site cells.old)) status_bits page offset bytes.now) (C.images cells.old) (C.site cells.old) (C.images cells.new) (C.site cells.new) }
 {
     let size = cells.size();
     if is_protected::<D>(status_bits, size, page as usize * 64) {

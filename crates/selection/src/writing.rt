@@ -27,7 +27,7 @@ pub struct PageWrite {
 impl PageWrite {
     // Whether the next byte completes the page: the write runs on, and offset 63 is filled.
     fn completes<D: Dialect>(&self, status_bits: u8) -> bool
-        ensures { result ≡ (facts.runs_on status_bits && fills_page self.now.first (items self.now.held)) }
+        ensures { result ≡ (D.facts.runs_on status_bits && fills_page self.now.first (items self.now.held)) }
     {
         D::runs_on(status_bits) && (self.first as usize + self.held.count()) % 64 == 63
     }
@@ -49,10 +49,10 @@ impl PageWrite {
 
     // Accepts the page, empties the buffer and goes on at the next page. Answers whether anything was put.
     fn turn<D: Dialect, C: Cells>(&mut self, cells: &mut C, status_bits: u8, size: u32) -> bool
-        requires { (size ≡ 64 * (site cells.old).pages) × (64 ≤ size) }
-        ensures phase { page_write self.new ≡ writing_paged (next_page (kind_of facts lasting (site cells.old)) self.old.page) 0 [] (self.old.blocked || page_protected (kind_of facts lasting (site cells.old)) status_bits self.old.page) true }
-        ensures wrote { result ≡ not (page_protected (kind_of facts lasting (site cells.old)) status_bits self.old.page) }
-        ensures done { Done (kind_of facts lasting (site cells.old)) (accepted (kind_of facts lasting (site cells.old)) status_bits self.old.page self.old.first (items self.old.held)) (images cells.old) (site cells.old) (images cells.new) (site cells.new) }
+        requires { (size ≡ 64 * (C.site cells.old).pages) × (64 ≤ size) }
+        ensures phase { page_write self.new ≡ writing_paged (next_page (kind_of D.facts C.lasting (C.site cells.old)) self.old.page) 0 [] (self.old.blocked || page_protected (kind_of D.facts C.lasting (C.site cells.old)) status_bits self.old.page) true }
+        ensures wrote { result ≡ not (page_protected (kind_of D.facts C.lasting (C.site cells.old)) status_bits self.old.page) }
+        ensures done { Done (kind_of D.facts C.lasting (C.site cells.old)) (accepted (kind_of D.facts C.lasting (C.site cells.old)) status_bits self.old.page self.old.first (items self.old.held)) (C.images cells.old) (C.site cells.old) (C.images cells.new) (C.site cells.new) }
     {
         let blocked = accept::<D, C>(cells, status_bits, self.page, self.first, self.held.bytes());
         *self = PageWrite {
@@ -74,10 +74,10 @@ impl PageWrite {
         size: u32,
         byte: u8,
     ) -> bool
-        requires { (size ≡ 64 * (site cells.old).pages) × (64 ≤ size) }
-        ensures phase { page_write self.new ≡ (paged (kind_of facts lasting (site cells.old)) status_bits self.old.page self.old.first (items self.old.held) self.old.blocked byte).phase }
-        ensures wrote { result ≡ marked (paged (kind_of facts lasting (site cells.old)) status_bits self.old.page self.old.first (items self.old.held) self.old.blocked byte).events false }
-        ensures done { Done (kind_of facts lasting (site cells.old)) (paged (kind_of facts lasting (site cells.old)) status_bits self.old.page self.old.first (items self.old.held) self.old.blocked byte).events (images cells.old) (site cells.old) (images cells.new) (site cells.new) }
+        requires { (size ≡ 64 * (C.site cells.old).pages) × (64 ≤ size) }
+        ensures phase { page_write self.new ≡ (paged (kind_of D.facts C.lasting (C.site cells.old)) status_bits self.old.page self.old.first (items self.old.held) self.old.blocked byte).phase }
+        ensures wrote { result ≡ marked (paged (kind_of D.facts C.lasting (C.site cells.old)) status_bits self.old.page self.old.first (items self.old.held) self.old.blocked byte).events false }
+        ensures done { Done (kind_of D.facts C.lasting (C.site cells.old)) (paged (kind_of D.facts C.lasting (C.site cells.old)) status_bits self.old.page self.old.first (items self.old.held) self.old.blocked byte).events (C.images cells.old) (C.site cells.old) (C.images cells.new) (C.site cells.new) }
     {
         let full = self.completes::<D>(status_bits);
         self.hold(byte);
@@ -123,10 +123,10 @@ impl DirectWrite {
         size: u32,
         byte: u8,
     ) -> bool
-        requires { (size ≡ 64 * (site cells.old).pages) × (64 ≤ size) }
-        ensures phase { direct_write self.new ≡ (direct (kind_of facts lasting (site cells.old)) status_bits self.old.at self.old.blocked byte).phase }
-        ensures wrote { result ≡ marked (direct (kind_of facts lasting (site cells.old)) status_bits self.old.at self.old.blocked byte).events false }
-        ensures done { Done (kind_of facts lasting (site cells.old)) (direct (kind_of facts lasting (site cells.old)) status_bits self.old.at self.old.blocked byte).events (images cells.old) (site cells.old) (images cells.new) (site cells.new) }
+        requires { (size ≡ 64 * (C.site cells.old).pages) × (64 ≤ size) }
+        ensures phase { direct_write self.new ≡ (direct (kind_of D.facts C.lasting (C.site cells.old)) status_bits self.old.at self.old.blocked byte).phase }
+        ensures wrote { result ≡ marked (direct (kind_of D.facts C.lasting (C.site cells.old)) status_bits self.old.at self.old.blocked byte).events false }
+        ensures done { Done (kind_of D.facts C.lasting (C.site cells.old)) (direct (kind_of D.facts C.lasting (C.site cells.old)) status_bits self.old.at self.old.blocked byte).events (C.images cells.old) (C.site cells.old) (C.images cells.new) (C.site cells.new) }
     {
         let at = self.at;
         let blocked = is_protected::<D>(status_bits, size as usize, at as usize);

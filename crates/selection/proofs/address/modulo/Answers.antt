@@ -11,9 +11,9 @@ loop-byte-preserved c =
     let bytes = c.args.bytes.now in
     let i = c.loop-byte.byte-index in
     let n = c.loop-byte.so_far in (
-      rw c.one-more-so-far.ensures.value (mod-lt (n * 256 + get_or bytes i 0) c.requires),
-      mod_behind s c.one-more-so-far.result (n * 256 + get_or bytes i 0) (drop (i + 1) bytes)
-          (ap (λ x. x % s) c.one-more-so-far.ensures.value ∙ mod-mod (n * 256 + get_or bytes i 0) s)
+      rw c.one_more-so_far.ensures.value (mod-lt (n * 256 + get_or bytes i 0) c.requires),
+      mod_behind s c.one_more-so_far.result (n * 256 + get_or bytes i 0) (drop (i + 1) bytes)
+          (ap (λ x. x % s) c.one_more-so_far.ensures.value ∙ mod-mod (n * 256 + get_or bytes i 0) s)
           ∙ ap (λ w. number_behind n w % s) (sym (drop_more bytes i 0 c.loop-byte-test.true))
           ∙ c.loop-byte.invariant.1,
     )

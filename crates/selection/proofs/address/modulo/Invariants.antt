@@ -4,4 +4,4 @@ use Rattle.rules.specs.Frame.{number_behind}
 use Rattle.selection.proofs.address.modulo.Given as goal
 
 abbrev pub invariant-loop-byte : goal.invariant-loop-byte
-invariant-loop-byte l = (l.so-far < l.size) × (number_behind l.so-far (drop l.byte-index l.bytes) % l.size ≡ number_behind 0 l.bytes % l.size)
+invariant-loop-byte l = (l.so_far < l.size) × (number_behind l.so_far (drop l.byte-index l.bytes) % l.size ≡ number_behind 0 l.bytes % l.size)

@@ -13,9 +13,9 @@ returns g c =
     let k = kind_of g.D.Dialect.facts m.lasting at in
     let s = state_of c.args.control.now unselected in
     let bytes = c.args.frame.now in
-    let f = framed g.D.Dialect.facts m.lasting at s bytes c.address-length-k.result c.args.size c.modulo-place.result
+    let f = framed g.D.Dialect.facts m.lasting at s bytes c.address_length-k.result c.args.size c.modulo-place.result
     (m.images c.args.cells.now) (m.images c.accept.new.cells) (m.site c.accept.new.cells)
-    c.address-length-k.ensures c.requires.1.0 c.requires.0 (sym c.fits.ensures ∙ c.if-not-fits.false) c.modulo-place.ensures.value
+    c.address_length-k.ensures c.requires.1.0 c.requires.0 (sym c.fits.ensures ∙ c.if-not-fits.false) c.modulo-place.ensures.value
     (sym c.accept.ensures.blocked ∙ c.if-accept.false) c.accept.ensures.done in
     record {
       answer = ap (λ (e : Ended). e.refusal) (sym f.is);
