@@ -3,4 +3,4 @@ use Rattle.promises.proofs.Selections.{reads_on, secure_reads, rolls_over, frame
 use Rattle.promises.proofs.selections_hold.Goals as goal
 
 pub returns : goal.returns
-returns c = record { read = reads_on; secure-read = secure_reads; rolled-write = rolls_over; direct_write = direct_goes_on; run-on-write = paged_goes_on; right-frame = frame_fills; wrong-frame = wrong_frame_marks }
+returns c = record { read = reads_on; secure_read = secure_reads; rolled_write = rolls_over; direct_write = direct_goes_on; run_on_write = paged_goes_on; right_frame = frame_fills; wrong_frame = wrong_frame_marks }
