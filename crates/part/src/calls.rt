@@ -14,7 +14,7 @@ impl<D: Dialect, C: Cells> Part<D, C> {
     // Begins a selection. Refused with 1 if the part is dead, 2 if it is off, 3 if it is selected already; then nothing
     // changes.
     pub fn select(&mut self) -> Result<(), Refusal>
-        ensures { Served Select (whole_of facts lasting (site self.old.cells) (images self.old.cells) self.old.control self.old.selection) (answered result) (None) (whole_of facts lasting (site self.new.cells) (images self.new.cells) self.new.control self.new.selection) }
+        ensures { Served Select (whole_of D.facts C.lasting (C.site self.old.cells) (C.images self.old.cells) self.old.control self.old.selection) (answered result) (None) (whole_of D.facts C.lasting (C.site self.new.cells) (C.images self.new.cells) self.new.control self.new.selection) }
     {
         self.ready()?;
         self.begin()
@@ -23,7 +23,7 @@ impl<D: Dialect, C: Cells> Part<D, C> {
     // Sends a byte; held tells whether the hold line is active, under which the byte is ignored. Answers the byte that the
     // part drives, if any. Refused with 1, 2, or 4 if the part is not selected; then nothing changes.
     pub fn byte(&mut self, value: u8, held: bool) -> Result<Option<u8>, Refusal>
-        ensures { Served (Byte value held) (whole_of facts lasting (site self.old.cells) (images self.old.cells) self.old.control self.old.selection) (answered result) (drove result) (whole_of facts lasting (site self.new.cells) (images self.new.cells) self.new.control self.new.selection) }
+        ensures { Served (Byte value held) (whole_of D.facts C.lasting (C.site self.old.cells) (C.images self.old.cells) self.old.control self.old.selection) (answered result) (drove result) (whole_of D.facts C.lasting (C.site self.new.cells) (C.images self.new.cells) self.new.control self.new.selection) }
     {
         let (activity, size) = self.ready()?;
         self.hear(activity, size, value, held)
@@ -32,7 +32,7 @@ impl<D: Dialect, C: Cells> Part<D, C> {
     // Ends the selection, with so many clocks left over behind its last whole byte. Refused with 1, 2, 4, or 5 if more than 7
     // clocks are left over; then nothing changes. Every other answer ends the selection.
     pub fn release(&mut self, clocks: u8) -> Result<(), Refusal>
-        ensures { Served (Release clocks) (whole_of facts lasting (site self.old.cells) (images self.old.cells) self.old.control self.old.selection) (answered result) (None) (whole_of facts lasting (site self.new.cells) (images self.new.cells) self.new.control self.new.selection) }
+        ensures { Served (Release clocks) (whole_of D.facts C.lasting (C.site self.old.cells) (C.images self.old.cells) self.old.control self.old.selection) (answered result) (None) (whole_of D.facts C.lasting (C.site self.new.cells) (C.images self.new.cells) self.new.control self.new.selection) }
     {
         let (_, size) = self.ready()?;
         self.finish(size, clocks)
@@ -41,7 +41,7 @@ impl<D: Dialect, C: Cells> Part<D, C> {
     // Lets the time pass in which a page is stored, recalled or woken. Answers the pages still to go. Refused with 1 or 2;
     // then nothing changes.
     pub fn tick(&mut self) -> Result<u32, Refusal>
-        ensures { Served Tick (whole_of facts lasting (site self.old.cells) (images self.old.cells) self.old.control self.old.selection) (result) (None) (whole_of facts lasting (site self.new.cells) (images self.new.cells) self.new.control self.new.selection) }
+        ensures { Served Tick (whole_of D.facts C.lasting (C.site self.old.cells) (C.images self.old.cells) self.old.control self.old.selection) (result) (None) (whole_of D.facts C.lasting (C.site self.new.cells) (C.images self.new.cells) self.new.control self.new.selection) }
     {
         let (activity, size) = self.ready()?;
         Ok(self.advance(activity, size))
@@ -49,7 +49,7 @@ impl<D: Dialect, C: Cells> Part<D, C> {
 
     // Cuts the power; charged tells whether enough charge is left to keep pages. Refused with 1 or 2; then nothing changes.
     pub fn cut(&mut self, charged: bool) -> Result<(), Refusal>
-        ensures { Served (Cut charged) (whole_of facts lasting (site self.old.cells) (images self.old.cells) self.old.control self.old.selection) (answered result) (None) (whole_of facts lasting (site self.new.cells) (images self.new.cells) self.new.control self.new.selection) }
+        ensures { Served (Cut charged) (whole_of D.facts C.lasting (C.site self.old.cells) (C.images self.old.cells) self.old.control self.old.selection) (answered result) (None) (whole_of D.facts C.lasting (C.site self.new.cells) (C.images self.new.cells) self.new.control self.new.selection) }
     {
         let (activity, size) = self.ready()?;
         self.lose_power(activity, size, charged);
@@ -58,7 +58,7 @@ impl<D: Dialect, C: Cells> Part<D, C> {
 
     // Brings the power back: the part wakes from page 0 on. Refused with 1 if it is dead, 6 if it is on; then nothing changes.
     pub fn power_up(&mut self) -> Result<(), Refusal>
-        ensures { Served PowerUp (whole_of facts lasting (site self.old.cells) (images self.old.cells) self.old.control self.old.selection) (answered result) (None) (whole_of facts lasting (site self.new.cells) (images self.new.cells) self.new.control self.new.selection) }
+        ensures { Served PowerUp (whole_of D.facts C.lasting (C.site self.old.cells) (C.images self.old.cells) self.old.control self.old.selection) (answered result) (None) (whole_of D.facts C.lasting (C.site self.new.cells) (C.images self.new.cells) self.new.control self.new.selection) }
     {
         self.wake()
     }

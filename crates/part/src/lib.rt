@@ -33,7 +33,7 @@ impl<D: Dialect, C: Cells> Part<D, C> {
     // Makes a part: off, unselected, with no status bits, latch and marks clear. No byte of the cells changes.
     pub fn new(dialect: D, cells: C) -> Part<D, C>
         ensures cells { result.cells ≡ cells }
-        ensures made { Led (images cells) [] (whole_of facts lasting (site result.cells) (images result.cells) result.control result.selection) }
+        ensures made { Led (C.images cells) [] (whole_of D.facts C.lasting (C.site result.cells) (C.images result.cells) result.control result.selection) }
     {
         let control = Control {
             power: Power::Off,
@@ -52,7 +52,7 @@ impl<D: Dialect, C: Cells> Part<D, C> {
 
     // Whether the part can be worked now: a dead one is refused with 1, and one that is off with 2.
     fn ready(&self) -> Result<(Activity, u32), Refusal>
-        ensures { Ready (kind_of facts lasting (site self.now.cells)) (state_of self.now.control (selection_of self.now.selection)) result }
+        ensures { Ready (kind_of D.facts C.lasting (C.site self.now.cells)) (state_of self.now.control (selection_of self.now.selection)) result }
     {
         let size = self.cells.size();
         if !D::is_alive(size) {
@@ -66,8 +66,8 @@ impl<D: Dialect, C: Cells> Part<D, C> {
 
     // Powers the part up, unless it is dead or on.
     fn wake(&mut self) -> Result<(), Refusal>
-        ensures control { (state_of self.new.control (selection_of self.new.selection)) ≡ (step (kind_of facts lasting (site self.old.cells)) (state_of self.old.control (selection_of self.old.selection)) PowerUp).state }
-        ensures answer { answered result ≡ (step (kind_of facts lasting (site self.old.cells)) (state_of self.old.control (selection_of self.old.selection)) PowerUp).answer }
+        ensures control { (state_of self.new.control (selection_of self.new.selection)) ≡ (step (kind_of D.facts C.lasting (C.site self.old.cells)) (state_of self.old.control (selection_of self.old.selection)) PowerUp).state }
+        ensures answer { answered result ≡ (step (kind_of D.facts C.lasting (C.site self.old.cells)) (state_of self.old.control (selection_of self.old.selection)) PowerUp).answer }
         ensures cells { self.new.cells ≡ self.old.cells }
     {
         match self.ready() {

@@ -13,7 +13,7 @@ use rules::Call;
 impl<D: Dialect, C: Cells> Part<D, C> {
     // One call, its answer let go.
     fn perform(&mut self, call: Call)
-        ensures { ServedSomehow call (whole_of facts lasting (site self.old.cells) (images self.old.cells) self.old.control self.old.selection) (whole_of facts lasting (site self.new.cells) (images self.new.cells) self.new.control self.new.selection) }
+        ensures { ServedSomehow call (whole_of D.facts C.lasting (C.site self.old.cells) (C.images self.old.cells) self.old.control self.old.selection) (whole_of D.facts C.lasting (C.site self.new.cells) (C.images self.new.cells) self.new.control self.new.selection) }
     {
         match call {
             Call::Select => {
@@ -40,7 +40,7 @@ impl<D: Dialect, C: Cells> Part<D, C> {
     // Works the part through some calls, in order and straight on past refusals. Whatever led to the part before, everything
     // promised holds at every moment of the whole run.
     pub fn work(&mut self, calls: &[Call])
-        ensures { WorkedThrough calls.now (whole_of facts lasting (site self.old.cells) (images self.old.cells) self.old.control self.old.selection) (whole_of facts lasting (site self.new.cells) (images self.new.cells) self.new.control self.new.selection) }
+        ensures { WorkedThrough calls.now (whole_of D.facts C.lasting (C.site self.old.cells) (C.images self.old.cells) self.old.control self.old.selection) (whole_of D.facts C.lasting (C.site self.new.cells) (C.images self.new.cells) self.new.control self.new.selection) }
     {
         for call in calls {
             self.perform(*call);

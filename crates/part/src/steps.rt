@@ -17,7 +17,7 @@ use selection::{Control, Heard, Phase, Selection};
 
 impl<D: Dialect, C: Cells> Part<D, C> {
     pub(super) fn begin(&mut self) -> Result<(), Refusal>
-        ensures { Does (on_select (state_of self.old.control (selection_of self.old.selection)) (selection_of self.old.selection)) (kind_of facts lasting (site self.old.cells)) (images self.old.cells) (site self.old.cells) (state_of self.new.control (selection_of self.new.selection)) (answered result) (None) (images self.new.cells) (site self.new.cells) }
+        ensures { Does (on_select (state_of self.old.control (selection_of self.old.selection)) (selection_of self.old.selection)) (kind_of D.facts C.lasting (C.site self.old.cells)) (C.images self.old.cells) (C.site self.old.cells) (state_of self.new.control (selection_of self.new.selection)) (answered result) (None) (C.images self.new.cells) (C.site self.new.cells) }
     {
         match self.selection {
             Selection::Selected(_) => Err(Refusal::AlreadySelected),
@@ -35,8 +35,8 @@ impl<D: Dialect, C: Cells> Part<D, C> {
         value: u8,
         held: bool,
     ) -> Result<Option<u8>, Refusal>
-        requires { (size ≡ 64 * (site self.old.cells).pages) × (64 ≤ size) }
-        ensures { Does (on_byte (kind_of facts lasting (site self.old.cells)) (state_of self.old.control (selection_of self.old.selection)) activity (selection_of self.old.selection) value held) (kind_of facts lasting (site self.old.cells)) (images self.old.cells) (site self.old.cells) (state_of self.new.control (selection_of self.new.selection)) (answered result) (drove result) (images self.new.cells) (site self.new.cells) }
+        requires { (size ≡ 64 * (C.site self.old.cells).pages) × (64 ≤ size) }
+        ensures { Does (on_byte (kind_of D.facts C.lasting (C.site self.old.cells)) (state_of self.old.control (selection_of self.old.selection)) activity (selection_of self.old.selection) value held) (kind_of D.facts C.lasting (C.site self.old.cells)) (C.images self.old.cells) (C.site self.old.cells) (state_of self.new.control (selection_of self.new.selection)) (answered result) (drove result) (C.images self.new.cells) (C.site self.new.cells) }
     {
         match &mut self.selection {
             Selection::Unselected => Err(Refusal::NotSelected),
@@ -57,8 +57,8 @@ impl<D: Dialect, C: Cells> Part<D, C> {
     }
 
     pub(super) fn finish(&mut self, size: u32, clocks: u8) -> Result<(), Refusal>
-        requires { (size ≡ 64 * (site self.old.cells).pages) × (64 ≤ size) }
-        ensures { Does (on_release (kind_of facts lasting (site self.old.cells)) (state_of self.old.control (selection_of self.old.selection)) (selection_of self.old.selection) clocks) (kind_of facts lasting (site self.old.cells)) (images self.old.cells) (site self.old.cells) (state_of self.new.control (selection_of self.new.selection)) (answered result) (None) (images self.new.cells) (site self.new.cells) }
+        requires { (size ≡ 64 * (C.site self.old.cells).pages) × (64 ≤ size) }
+        ensures { Does (on_release (kind_of D.facts C.lasting (C.site self.old.cells)) (state_of self.old.control (selection_of self.old.selection)) (selection_of self.old.selection) clocks) (kind_of D.facts C.lasting (C.site self.old.cells)) (C.images self.old.cells) (C.site self.old.cells) (state_of self.new.control (selection_of self.new.selection)) (answered result) (None) (C.images self.new.cells) (C.site self.new.cells) }
     {
         let Selection::Selected(phase) = &self.selection else {
             return Err(Refusal::NotSelected);
@@ -78,8 +78,8 @@ impl<D: Dialect, C: Cells> Part<D, C> {
     }
 
     pub(super) fn advance(&mut self, activity: Activity, size: u32) -> u32
-        requires { (size ≡ 64 * (site self.old.cells).pages) × (self.old.control.power ≡ On activity) }
-        ensures { Does (on_tick (kind_of facts lasting (site self.old.cells)) (state_of self.old.control (selection_of self.old.selection)) activity) (kind_of facts lasting (site self.old.cells)) (images self.old.cells) (site self.old.cells) (state_of self.new.control (selection_of self.new.selection)) (Ok result) (None) (images self.new.cells) (site self.new.cells) }
+        requires { (size ≡ 64 * (C.site self.old.cells).pages) × (self.old.control.power ≡ On activity) }
+        ensures { Does (on_tick (kind_of D.facts C.lasting (C.site self.old.cells)) (state_of self.old.control (selection_of self.old.selection)) activity) (kind_of D.facts C.lasting (C.site self.old.cells)) (C.images self.old.cells) (C.site self.old.cells) (state_of self.new.control (selection_of self.new.selection)) (Ok result) (None) (C.images self.new.cells) (C.site self.new.cells) }
     {
         let pages = size / 64;
         match activity {
@@ -117,8 +117,8 @@ impl<D: Dialect, C: Cells> Part<D, C> {
     }
 
     pub(super) fn lose_power(&mut self, activity: Activity, size: u32, charged: bool)
-        requires { size ≡ 64 * (site self.old.cells).pages }
-        ensures { Does (on_cut (kind_of facts lasting (site self.old.cells)) (state_of self.old.control (selection_of self.old.selection)) activity charged) (kind_of facts lasting (site self.old.cells)) (images self.old.cells) (site self.old.cells) (state_of self.new.control (selection_of self.new.selection)) (Ok 0) (None) (images self.new.cells) (site self.new.cells) }
+        requires { size ≡ 64 * (C.site self.old.cells).pages }
+        ensures { Does (on_cut (kind_of D.facts C.lasting (C.site self.old.cells)) (state_of self.old.control (selection_of self.old.selection)) activity charged) (kind_of D.facts C.lasting (C.site self.old.cells)) (C.images self.old.cells) (C.site self.old.cells) (state_of self.new.control (selection_of self.new.selection)) (Ok 0) (None) (C.images self.new.cells) (C.site self.new.cells) }
     {
         drain::<D, C>(&mut self.cells, &self.control, activity, size / 64, charged);
         self.selection = Selection::Unselected;
@@ -128,8 +128,8 @@ impl<D: Dialect, C: Cells> Part<D, C> {
 
 // Keeps the pages from one on, lowest first.
 fn keep_from<D: Dialect, C: Cells>(cells: &mut C, from: u32, pages: u32)
-    requires { pages ≡ (site cells.old).pages }
-    ensures { Done (kind_of facts lasting (site cells.old)) (keeps from (pages - from)) (images cells.old) (site cells.old) (images cells.new) (site cells.new) }
+    requires { pages ≡ (C.site cells.old).pages }
+    ensures { Done (kind_of D.facts C.lasting (C.site cells.old)) (keeps from (pages - from)) (C.images cells.old) (C.site cells.old) (C.images cells.new) (C.site cells.new) }
 {
     for page in from..pages {
         let _ = cells.keep(page as usize);
@@ -145,8 +145,8 @@ fn save<D: Dialect, C: Cells>(
     pages: u32,
     charged: bool,
 )
-    requires { pages ≡ (site cells.old).pages }
-    ensures { Done (kind_of facts lasting (site cells.old)) (if charged then saved (kind_of facts lasting (site cells.old)) (state_of control.now unselected) activity else []) (images cells.old) (site cells.old) (images cells.new) (site cells.new) }
+    requires { pages ≡ (C.site cells.old).pages }
+    ensures { Done (kind_of D.facts C.lasting (C.site cells.old)) (if charged then saved (kind_of D.facts C.lasting (C.site cells.old)) (state_of control.now unselected) activity else []) (C.images cells.old) (C.site cells.old) (C.images cells.new) (C.site cells.new) }
 {
     match activity {
         _ if !charged => {}
@@ -167,8 +167,8 @@ fn drain<D: Dialect, C: Cells>(
     pages: u32,
     charged: bool,
 )
-    requires { pages ≡ (site cells.old).pages }
-    ensures { Done (kind_of facts lasting (site cells.old)) (cut_events (kind_of facts lasting (site cells.old)) (state_of control.now unselected) activity charged) (images cells.old) (site cells.old) (images cells.new) (site cells.new) }
+    requires { pages ≡ (C.site cells.old).pages }
+    ensures { Done (kind_of D.facts C.lasting (C.site cells.old)) (cut_events (kind_of D.facts C.lasting (C.site cells.old)) (state_of control.now unselected) activity charged) (C.images cells.old) (C.site cells.old) (C.images cells.new) (C.site cells.new) }
 {
     save::<D, C>(cells, control, activity, pages, charged);
     cells.fade();

@@ -6,14 +6,14 @@ use Rattle.part.specs.View.{whole_of, answered, drove}
 use Rattle.part.proofs.Serving.{refused_serves, on_serves, byte_is_not_power_up}
 use Rattle.part.proofs.Part.byte.Goals as goal
 
-pub returns-in-err-activity : goal.returns-in-err-activity
-returns-in-err-activity g c =
+pub returns-in_err-activity : goal.returns-in_err-activity
+returns-in_err-activity g c =
     let m = g.C.Cells in
     let was = c.args.self.now in
     let w = whole_of g.D.Dialect.facts m.lasting (m.site was.cells) (m.images was.cells) was.control was.selection in
-    let p = err_from_is_err_and c.from-residual.result c.from-residual.ensures.1 in
+    let p = err_from_is_err_and c.from_residual.result c.from_residual.ensures.1 in
     subst (λ r. Served (Byte c.args.value c.args.held) w (answered r) (drove r) w) (sym (p.1 ∙ ap Err p.2))
-    (refused_serves g.met.D.Dialect.lawful (c.in-err-activity.ensures.0 (Byte c.args.value c.args.held) (byte_is_not_power_up c.args.value c.args.held)))
+    (refused_serves g.met.D.Dialect.lawful (c.in_err-activity.ensures.0 (Byte c.args.value c.args.held) (byte_is_not_power_up c.args.value c.args.held)))
 
 pub returns : goal.returns
 returns g c =
@@ -22,4 +22,4 @@ returns g c =
     let now = c.hear.new.self in
     on_serves g.D.Dialect.facts m.lasting (m.site was.cells) (m.site now.cells) (m.images was.cells) (m.images now.cells)
     was.control now.control was.selection now.selection (Byte c.args.value c.args.held) _ _ _ g.met.D.Dialect.lawful
-    (c.in-ok-activity.ensures.0 (Byte c.args.value c.args.held)) c.hear.ensures
+    (c.in_ok-activity.ensures.0 (Byte c.args.value c.args.held)) c.hear.ensures
