@@ -61,7 +61,7 @@ impl<D: Dialect, C: Cells> Bench<D, C> {
     // buffer of an earlier record has less room than this record has bytes.
     pub fn run(&mut self, bytes: &[u8]) -> Result<Outcome, AllocError>
         ensures succeeds { length bytes.now ≤ vec_capacity self.old.driven → is_ok result ≡ true }
-        ensures ran { MatchResult result (λ outcome. RanRecord self.old.held bytes.now (whole facts lasting site images self.old.part) outcome self.new.driven.items self.new.held (whole facts lasting site images self.new.part)) (λ _. Untouched (whole facts lasting site images self.old.part) self.new.driven.items self.old.held self.new.held (whole facts lasting site images self.new.part)) }
+        ensures ran { MatchResult result (λ outcome. RanRecord self.old.held bytes.now (whole D.facts C.lasting C.site C.images self.old.part) outcome self.new.driven.items self.new.held (whole D.facts C.lasting C.site C.images self.new.part)) (λ _. Untouched (whole D.facts C.lasting C.site C.images self.old.part) self.new.driven.items self.old.held self.new.held (whole D.facts C.lasting C.site C.images self.new.part)) }
     {
         self.driven.clear();
         self.driven.reserve(bytes.len())?;
@@ -70,7 +70,7 @@ impl<D: Dialect, C: Cells> Bench<D, C> {
 
     fn carry_out(&mut self, bytes: &[u8]) -> Outcome
         requires { (self.old.driven.items ≡ []) × (length bytes.now ≤ vec_capacity self.old.driven) }
-        ensures { RanRecord self.old.held bytes.now (whole facts lasting site images self.old.part) result self.new.driven.items self.new.held (whole facts lasting site images self.new.part) }
+        ensures { RanRecord self.old.held bytes.now (whole D.facts C.lasting C.site C.images self.old.part) result self.new.driven.items self.new.held (whole D.facts C.lasting C.site C.images self.new.part) }
     {
         match Record::read(bytes) {
             Ok(record) => self.obey(record),
@@ -80,7 +80,7 @@ impl<D: Dialect, C: Cells> Bench<D, C> {
 
     fn obey(&mut self, record: Record<'_>) -> Outcome
         requires { (self.old.driven.items ≡ []) × (bytes_sent (said_by «record») ≤ vec_capacity self.old.driven) }
-        ensures { (answer : Result ℕ Refused) × ((result ≡ of_record answer) × Ran self.old.held (said_by «record».entry) (whole facts lasting site images self.old.part) answer self.new.driven.items self.new.held (whole facts lasting site images self.new.part)) }
+        ensures { (answer : Result ℕ Refused) × ((result ≡ of_record answer) × Ran self.old.held (said_by «record».entry) (whole D.facts C.lasting C.site C.images self.old.part) answer self.new.driven.items self.new.held (whole D.facts C.lasting C.site C.images self.new.part)) }
     {
         let level = self.held;
         match record {

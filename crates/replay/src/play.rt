@@ -16,7 +16,7 @@ impl<D: Dialect, C: Cells> Bench<D, C> {
     // refused is told if there is room for 44 bytes.
     pub fn play(&mut self, file: &[u8], out: &mut Vec<u8>) -> Result<(), AllocError>
         ensures told { is_some (opening_fault file.now) ≡ true → vec_len out.old + 44 ≤ vec_capacity out.old → is_ok result ≡ true }
-        ensures played { MatchResult result (λ _. (text : List ℕ) × ((out.new.items ≡ out.old.items ++ text) × Played file.now self.old.held (whole facts lasting site images self.old.part) text self.new.held (whole facts lasting site images self.new.part))) (λ _. PlayedInPart file.now self.old.held (whole facts lasting site images self.old.part) self.new.held (whole facts lasting site images self.new.part)) }
+        ensures played { MatchResult result (λ _. (text : List ℕ) × ((out.new.items ≡ out.old.items ++ text) × Played file.now self.old.held (whole D.facts C.lasting C.site C.images self.old.part) text self.new.held (whole D.facts C.lasting C.site C.images self.new.part))) (λ _. PlayedInPart file.now self.old.held (whole D.facts C.lasting C.site C.images self.old.part) self.new.held (whole D.facts C.lasting C.site C.images self.new.part)) }
     {
         let mut records = match Reader::open(file) {
             Ok(records) => records,
@@ -30,7 +30,7 @@ impl<D: Dialect, C: Cells> Bench<D, C> {
 
     // Runs a record where it stands in its file, and adds its line.
     fn play_record(&mut self, found: Found<'_>, out: &mut Vec<u8>) -> Result<(), AllocError>
-        ensures { MatchResult result (λ _. (text : List ℕ) × ((out.new.items ≡ out.old.items ++ text) × RanLocated (record { spot = found.entry.spot; bytes = found.entry.bytes.now }) self.old.held (whole facts lasting site images self.old.part) text self.new.held (whole facts lasting site images self.new.part))) (λ _. RanOrNot (record { spot = found.entry.spot; bytes = found.entry.bytes.now }) self.old.held (whole facts lasting site images self.old.part) self.new.held (whole facts lasting site images self.new.part)) }
+        ensures { MatchResult result (λ _. (text : List ℕ) × ((out.new.items ≡ out.old.items ++ text) × RanLocated (record { spot = found.entry.spot; bytes = found.entry.bytes.now }) self.old.held (whole D.facts C.lasting C.site C.images self.old.part) text self.new.held (whole D.facts C.lasting C.site C.images self.new.part))) (λ _. RanOrNot (record { spot = found.entry.spot; bytes = found.entry.bytes.now }) self.old.held (whole D.facts C.lasting C.site C.images self.old.part) self.new.held (whole D.facts C.lasting C.site C.images self.new.part)) }
     {
         let outcome = self.run(found.bytes)?;
         let result = placed(found.spot, outcome);

@@ -21,7 +21,7 @@ pub(super) fn transfer<D: Dialect, C: Cells>(
     driven: &mut Vec<Option<u8>>,
 ) -> Result<(), Refusal>
     requires { (driven.old.items ≡ []) × (length bytes.now ≤ vec_capacity driven.old) }
-    ensures { Ran held (transfer clocks bytes.now) (whole facts lasting site images part.old) (answered result) driven.new.items held (whole facts lasting site images part.new) }
+    ensures { Ran held (transfer clocks bytes.now) (whole D.facts C.lasting C.site C.images part.old) (answered result) driven.new.items held (whole D.facts C.lasting C.site C.images part.new) }
 {
     part.select()?;
     send(part, held, bytes, driven);
@@ -36,7 +36,7 @@ fn send<D: Dialect, C: Cells>(
     driven: &mut Vec<Option<u8>>,
 )
     requires { (driven.old.items ≡ []) × (length bytes.now ≤ vec_capacity driven.old) }
-    ensures { (last : Result ℕ Refused) × Made (map (λ b. Byte b held) bytes.now) (whole facts lasting site images part.old) driven.new.items last (whole facts lasting site images part.new) }
+    ensures { (last : Result ℕ Refused) × Made (map (λ b. Byte b held) bytes.now) (whole D.facts C.lasting C.site C.images part.old) driven.new.items last (whole D.facts C.lasting C.site C.images part.new) }
 {
     for byte in bytes {
         let answer = part.byte(*byte, held);
@@ -60,7 +60,7 @@ pub(super) fn tick<D: Dialect, C: Cells>(
     held: bool,
     count: u8,
 ) -> Result<u32, Refusal>
-    ensures { Ran held (ticks count) (whole facts lasting site images part.old) result [] held (whole facts lasting site images part.new) }
+    ensures { Ran held (ticks count) (whole D.facts C.lasting C.site C.images part.old) result [] held (whole D.facts C.lasting C.site C.images part.new) }
 {
     let mut answer = Ok(0);
     for _made in 0..count {
@@ -74,7 +74,7 @@ fn tick_on<D: Dialect, C: Cells>(
     part: &mut Part<D, C>,
     so_far: Result<u32, Refusal>,
 ) -> Result<u32, Refusal>
-    ensures { TickedOn so_far (whole facts lasting site images part.old) result (whole facts lasting site images part.new) }
+    ensures { TickedOn so_far (whole D.facts C.lasting C.site C.images part.old) result (whole D.facts C.lasting C.site C.images part.new) }
 {
     match so_far {
         Ok(_) => part.tick(),

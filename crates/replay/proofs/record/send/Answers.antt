@@ -22,10 +22,10 @@ loop-byte-preserved g c = (
   (
     answered c.byte-answer.result,
     byte_made c.args.held c.args.bytes.now c.loop-byte.byte-index c.loop-byte-test.true c.loop-byte.invariant.0.1 c.byte-answer.ensures
-        (c.push-reserved.ensures.items ∙ ap (λ d. vec_items c.loop-byte.driven ++ (d ∷ [])) c.on-the-line.ensures),
+        (c.push_reserved.ensures.items ∙ ap (λ d. vec_items c.loop-byte.driven ++ (d ∷ [])) c.on_the_line.ensures),
   ),
-  c.push-reserved.ensures.len ∙ ap (λ n. n + 1) c.loop-byte.invariant.1,
-  omega (arith, c.push-reserved.ensures.capacity),
+  c.push_reserved.ensures.len ∙ ap (λ n. n + 1) c.loop-byte.invariant.1,
+  omega (arith, c.push_reserved.ensures.capacity),
 )
 
 pub returns : goal.returns

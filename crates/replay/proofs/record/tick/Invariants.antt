@@ -7,4 +7,4 @@ abbrev pub invariant-loop-made : goal.invariant-loop-made
 invariant-loop-made g l =
     let m = g.C.Cells in
     let f = g.D.Dialect.facts in
-    TickedTo l.count l.-made (whole f m.lasting m.site m.images l.initial.part) l.answer (whole f m.lasting m.site m.images l.part)
+    TickedTo l.count l._made (whole f m.lasting m.site m.images l.initial.part) l.answer (whole f m.lasting m.site m.images l.part)

@@ -7,9 +7,9 @@ pub returns-in-Err : goal.returns-in-Err
 returns-in-Err g c =
     let m = g.C.Cells in
     let w = whole g.D.Dialect.facts m.lasting m.site m.images c.args.self.now.part in record {
-      told = λ _ room. c.add-refused-opening.ensures.succeeds room;
-      played = not_opened c.add-refused-opening.result c.args.file.now (vec_items c.args.out.now) _ c.in-Err.fault c.args.self.now.held w
-          g.met.D.Dialect.lawful c.in-Err.ensures c.add-refused-opening.ensures.items;
+      told = λ _ room. c.add_refused_opening.ensures.succeeds room;
+      played = not_opened c.add_refused_opening.result c.args.file.now (vec_items c.args.out.now) _ c.in-Err.fault c.args.self.now.held w
+          g.met.D.Dialect.lawful c.in-Err.ensures c.add_refused_opening.ensures.items;
     }
 
 pub loop-found-init : goal.loop-found-init
@@ -22,13 +22,13 @@ pub loop-found-preserved : goal.loop-found-preserved
 loop-found-preserved g c =
     let n = c.loop-found.invariant.0 in
     let next = c.in-Some.ensures.in_order c.args.file.now n c.loop-found.invariant.1.0 in
-    (n + 1, (next.1, one_further _ (vec_items c.play-record.new.out) g.met.D.Dialect.lawful next.0 c.loop-found.invariant.1.1 c.in-ok-play-record.ensures))
+    (n + 1, (next.1, one_further _ (vec_items c.play_record.new.out) g.met.D.Dialect.lawful next.0 c.loop-found.invariant.1.1 c.in_ok-play_record.ensures))
 
-pub returns-in-err-play-record : goal.returns-in-err-play-record
-returns-in-err-play-record g c =
+pub returns-in_err-play_record : goal.returns-in_err-play_record
+returns-in_err-play_record g c =
     let n = c.loop-found.invariant.0 in
     let next = c.in-Some.ensures.in_order c.args.file.now n c.loop-found.invariant.1.0 in record {
-      told = nothing_to_tell c.from-residual.result c.args.file.now _ _ c.loop-found.invariant.1.0.opens;
-      played = err_case _ _ c.from-residual.result c.from-residual.ensures.0
-          (λ _. in_part _ g.met.D.Dialect.lawful next.0 c.loop-found.invariant.1.1 c.in-err-play-record.ensures);
+      told = nothing_to_tell c.from_residual.result c.args.file.now _ _ c.loop-found.invariant.1.0.opens;
+      played = err_case _ _ c.from_residual.result c.from_residual.ensures.0
+          (λ _. in_part _ g.met.D.Dialect.lawful next.0 c.loop-found.invariant.1.1 c.in_err-play_record.ensures);
     }
