@@ -26,7 +26,7 @@ pub fn play_input<D: Dialect, C: Cells>(
     rt: &HostRuntime,
     bench: &mut Bench<D, C>,
 ) -> anyhow::Result<Session>
-    ensures { IfOk result (λ session. FilePlayed session.file.items bench.old.held (whole facts lasting site images bench.old.part) session.text.items bench.new.held (whole facts lasting site images bench.new.part)) }
+    ensures { IfOk result (λ session. FilePlayed session.file.items bench.old.held (whole D.facts C.lasting C.site C.images bench.old.part) session.text.items bench.new.held (whole D.facts C.lasting C.site C.images bench.new.part)) }
 {
     let heap = rt.alloc();
     let mut file = Vec::new(heap);
