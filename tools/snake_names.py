@@ -20,7 +20,7 @@ TOP = Path(sys.argv[1] if len(sys.argv) > 1 else ".")
 OTHER = {"bit-xor": "bit_xor_lem"}
 
 WORD = r"[^\s(){}\[\].,;|«»\"λ∀`]+"
-DECLARED = re.compile(r"^\s*(?:(?:abbrev|unfoldable|opaque|pub|private|record|data|class|mod|module)\s+)*(" + WORD + r")(?:\s+[({].*)?\s:\s(?!=)")
+DECLARED = re.compile(r"^\s*(?:(?:abbrev|unfoldable|opaque|pub|private|record|data|class|mod|module)\s+)*(" + WORD + r")(?:\s+[({].*)?\s:(?:\s(?!=)|$)")
 HEAD = re.compile(r"^\s*(?:pub\s+)?(?:record|data)\s+(" + WORD + r")")
 LET = re.compile(r"\blet\s+(" + WORD + r")\s*[:=]")
 ANSWER = re.compile(r"^\s*(?:abbrev\s+)?(?:pub\s+)?(" + WORD + r")\s*:\s*(?:goal|given|need)\.")

@@ -1,13 +1,13 @@
 -- Half a byte at a time: four bits of the message move the register up by four and take off an entry of the table, chosen
 -- by the register's top four bits and the message's.
-use Rattle.std.proofs.Common.{◌≡◌, ℕ, zero, suc, ◌+◌, ◌*◌, ◌/◌, ◌%◌, ◌^◌, ◌<◌, ◌≤◌, Bool, true, false, cond, ◌&&◌, eqb, leb, List, [], ◌∷◌, ◌++◌, sym, refl, ap, ◌∙◌, subst, ap₂, mod-eq_of_lt, div-add-mod', arith}
+use Rattle.std.proofs.Common.{◌≡◌, ℕ, zero, suc, ◌*◌, ◌/◌, ◌%◌, ◌^◌, ◌<◌, Bool, true, false, cond, ◌&&◌, eqb, ◌++◌, sym, refl, ap, ◌∙◌, ap₂, mod-eq_of_lt, div-add-mod', arith}
 use mathlib.Core.Bool.{xor}
-use lib.Bits.{bit_xor, xor_lt, xor_self, xor_shifted, xor_zero_r, xor_comm}
+use lib.Bits.{bit_xor, xor_shifted, xor_comm}
 use Rattle.std.proofs.lemmas.Bool.{lt-leb, eqb-true}
-use Rattle.std.proofs.lemmas.Bool.Decides.{Decides-below_and, Decides-eqb}
-use Rattle.crc.specs.Sum.{step, top, shifted, after_bits, bits, message_bits, after_message, sum_of, start}
+use Rattle.std.proofs.lemmas.Bool.Decides.{Decides-below_and}
+use Rattle.crc.specs.Sum.{step, shifted, after_bits, bits}
 use Rattle.crc.specs.Table.{multiple}
-use Rattle.crc.proofs.Runs.{change, difference_evolves_by_change, after_append, after_one_to_one, after_message_append, after_message_lt}
+use Rattle.crc.proofs.Runs.{change, difference_evolves_by_change, after_append}
 
 -- ---- the part of the register below its top four bits only moves up
 

@@ -1,5 +1,5 @@
 -- The law of the received pair: a message's sum is the pair received behind it exactly if the register over both is 0.
-use Rattle.std.proofs.Common.{◌≡◌, ℕ, ◌*◌, ◌/◌, ◌%◌, ◌<◌, ◌↔◌, List, [], ◌∷◌, ◌++◌, sym, refl, ap, ◌∙◌, arith}
+use Rattle.std.proofs.Common.{◌≡◌, ℕ, ◌*◌, ◌/◌, ◌%◌, ◌<◌, ◌↔◌, List, ◌++◌, sym, ap, ◌∙◌, arith}
 use mathlib.Core.Bool.{xor}
 use lib.Bits.{bit_xor, xor_self, xor_zero_r}
 use Rattle.crc.specs.Sum.{step, after_bits, bits, message_bits, after_message, sum_of, start}

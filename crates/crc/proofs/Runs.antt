@@ -1,11 +1,11 @@
 -- Many steps: the register after a list of bits, and how two runs over lists of one length differ.
-use Rattle.std.proofs.Common.{◌≡◌, ℕ, zero, suc, ◌+◌, ◌<◌, Bool, true, false, List, [], ◌∷◌, ◌++◌, length, replicate, sym, refl, ap, ◌∙◌, subst, ap₂, arith}
+use Rattle.std.proofs.Common.{◌≡◌, ℕ, ◌<◌, Bool, List, [], ◌∷◌, ◌++◌, length, sym, refl, ap, ◌∙◌, arith}
 use mathlib.Core.Bool.{xor}
 use native.Mathlib.Nat.{suc_inj}
-use lib.Bits.{bit_xor, xor_lt, xor_self}
+use lib.Bits.{bit_xor, xor_self}
 use Rattle.std.proofs.lemmas.List.{append_assoc}
 use Rattle.crc.specs.Sum.{step, after_bits, bits, message_bits, after_message}
-use Rattle.crc.proofs.Step.{step_lt, step_linear, step_back, step_one_to_one, xor_cancel}
+use Rattle.crc.proofs.Step.{step_lt, step_linear, step_one_to_one, xor_cancel}
 
 pub after_lt : (r : ℕ) (w : List Bool) → r < 0x10000 → after_bits r w < 0x10000
 after_lt r [] h = h

@@ -1,5 +1,5 @@
 -- A change of at most 16 successive bits never takes the register back to where it would have been.
-use Rattle.std.proofs.Common.{◌≡◌, ℕ, zero, suc, ◌+◌, ◌-◌, ◌*◌, ◌/◌, ◌%◌, ◌^◌, ◌<◌, ◌≤◌, Bool, true, false, List, [], ◌∷◌, ◌++◌, length, sym, refl, ap, ◌∙◌, subst, ap₂, mul_assoc, add-mul, pow-suc, zero-add, zero-mul, arith, pow-add}
+use Rattle.std.proofs.Common.{◌≡◌, ℕ, suc, ◌+◌, ◌-◌, ◌*◌, ◌/◌, ◌%◌, ◌^◌, ◌<◌, ◌≤◌, Bool, List, [], ◌∷◌, ◌++◌, length, sym, refl, ap, ◌∙◌, subst, ap₂, mul_assoc, add-mul, pow-suc, zero-add, zero-mul, arith, pow-add}
 use mathlib.Core.Bool.{xor}
 use native.Mathlib.Nat.{suc_inj}
 use Rattle.crc.specs.Sum.{step, shifted, after_bits}

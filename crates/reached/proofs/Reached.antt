@@ -139,7 +139,7 @@ laws = record {
     is_enabled = refl;
     has_data = omega arith;
   };
-  a-write-that-runs-on = λ law. record {
+  a_write_that_runs_on = λ law. record {
     begun = record { is_lawful = law; is_alive = refl; is_idle = refl; is_free = refl; names = refl; whole_address = refl };
     is_enabled = refl;
     has_data = omega arith;

@@ -120,7 +120,7 @@ pub record LawsSpeakOfSomething : Type 0 where
   pub a_secure_read : Lawful nv → Begun nv_256 (run awake) SecureRead 0x13 (0x00 ∷ 0x10 ∷ [])
   pub a_write : Lawful nv → Written nv_256 (run (awake ++ enable)) 0x02 (0x00 ∷ 0x10 ∷ []) (0x5A ∷ [])
   pub a_direct_write : Lawful mr → Written mr_256 (run (awake ++ enable)) 0x02 (0x00 ∷ 0x00 ∷ 0x10 ∷ []) (0x5A ∷ [])
-  pub a-write-that-runs-on :
+  pub a_write_that_runs_on :
       Lawful nv → Written nv_256 (run (awake ++ (status_set 0x20 ++ enable))) 0x02 (0x00 ∷ 0x10 ∷ []) (0x5A ∷ [])
   pub it_runs_on : nv_256.facts.runs_on (state nv_256 (awake ++ (status_set 0x20 ++ enable))).status_bits ≡ true
   pub inside_a_selection : Inside (Byte 0x11 false ∷ Tick ∷ Byte 0x22 true ∷ [])

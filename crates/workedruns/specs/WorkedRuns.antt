@@ -25,7 +25,7 @@ pub record WorkedRuns : Type 0 where
   -- ---- the table
   pub bytes_01h_02h_are_258 : number_at (0x01 ∷ 0x02 ∷ []) 0 ≡ 258
   pub two_records_open : opening_fault two_records ≡ None
-  pub they-are-read-in-order :
+  pub they_are_read_in_order :
       records_of two_records ≡ record { spot = spot 0 10; bytes = 0x50 ∷ [] } ∷ record { spot = spot 1 11; bytes = 0x4B ∷ 0x04 ∷ [] } ∷ []
   pub one_record_at_6_opens : opening_fault (one_record 6 1) ≡ None
   pub one_record_at_5_lies_in_the_table : opening_fault (one_record 5 1) ≡ Some (opening_fault_at (spot 0 2) Misplaced)
@@ -33,7 +33,7 @@ pub record WorkedRuns : Type 0 where
   pub one_record_of_2_bytes_is_past_the_end : opening_fault (one_record 6 2) ≡ Some (opening_fault_at (spot 0 2) PastEnd)
   pub five_records_and_nothing_else_have_no_table : opening_fault (0x00 ∷ 0x05 ∷ []) ≡ Some (opening_fault_at (spot 0 0) NoTable)
   -- ---- the calls of a record
-  pub a-transfer-selects-sends-and-releases :
+  pub a_transfer_selects_sends_and_releases :
       calls_for nv_256 (state nv_256 awake) false (transfer 1 (0x05 ∷ 0x00 ∷ [])) ≡ Select ∷ Byte 0x05 false ∷ Byte 0x00 false ∷ Release 1 ∷ []
   pub under_hold_its_bytes_are_held : calls_for nv_256 (state nv_256 awake) true (transfer 0 (0x06 ∷ [])) ≡ Select ∷ Byte 0x06 true ∷ Release 0 ∷ []
   pub without_power_it_only_selects : calls_for nv_256 made false (transfer 0 (0x06 ∷ [])) ≡ Select ∷ []
@@ -47,7 +47,7 @@ pub record WorkedRuns : Type 0 where
   pub a_line_of_a_transfer : line_text 4 T (Ok 0) (None ∷ None ∷ None ∷ Some 0x5A ∷ []) ≡ codes "4 T 0 -- -- -- 5A" ++ (10 ∷ [])
   pub a_line_of_ticks : line_text 12 K (Ok 3) [] ≡ codes "12 K 0 3" ++ (10 ∷ [])
   pub a_line_of_refused_ticks : line_text 0 K (Err (record_fault_at (spot 0 6) (Refused PowerOff))) [] ≡ codes "0 K 2" ++ (10 ∷ [])
-  pub a-line-of-a-refused-transfer :
+  pub a_line_of_a_refused_transfer :
       line_text 11 T (Err (record_fault_at (spot 11 99) (Refused WrongLength))) (None ∷ None ∷ []) ≡ codes "11 T 15 -- --" ++ (10 ∷ [])
   pub a_line_of_an_unknown_letter : line_text 31 Unknown (Err (record_fault_at (spot 31 200) UnknownLetter)) [] ≡ codes "31 ? 34" ++ (10 ∷ [])
   pub a_line_of_a_misplaced_record : opening_text (opening_fault_at (spot 1 6) Misplaced) ≡ codes "F 32 6" ++ (10 ∷ [])
