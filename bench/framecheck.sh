@@ -10,9 +10,9 @@ turns=${2:-15}
 work=${TMPDIR:-/tmp}/framecheck-bench
 mkdir -p "$work"
 
-rt check framecheck >"$work/check.log" 2>&1 || { tail "$work/check.log"; exit 1; }
+tools/build.sh framecheck
 cargo build --quiet --release --manifest-path bench/framecheck_baseline/Cargo.toml --target-dir "$work/target"
-proved=target/bin/framecheck
+proved=crates/framecheck/out/framecheck
 baseline=$work/target/release/framecheck_baseline
 
 python3 bench/many_frames.py "$frames" >"$work/frames.txt"

@@ -1,7 +1,7 @@
 #!/usr/bin/env python3
 """Holds framecheck to its Python model on random and damaged input: the same report for each, and status 0.
 
-    rt check framecheck && python3 bench/framecheck_fuzz.py target/bin/framecheck 3000
+    tools/build.sh framecheck && python3 bench/framecheck_fuzz.py crates/framecheck/out/framecheck 3000
 """
 
 import random

@@ -10,9 +10,9 @@ turns=${2:-15}
 work=${TMPDIR:-/tmp}/part-bench
 mkdir -p "$work"
 
-rt check partload >"$work/check.log" 2>&1 || { tail "$work/check.log"; exit 1; }
+tools/build.sh partload
 cargo build --quiet --release --manifest-path bench/part_baseline/Cargo.toml --target-dir "$work/target"
-proved=target/bin/partload
+proved=crates/partload/out/partload
 baseline=$work/target/release/part_baseline
 
 "$proved" 0 1 30 500 50000 "$rounds" >"$work/proved.out"

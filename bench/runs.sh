@@ -12,8 +12,9 @@ work=${TMPDIR:-/tmp}/run-bench
 mkdir -p "$work"
 cargo build --quiet --release --offline --manifest-path bench/run_model/Cargo.toml --target-dir "$work/target"
 model=$work/target/release/run_model
-nv=target/bin/nvbench
-mr=target/bin/mrbench
+tools/build.sh nvbench mrbench
+nv=crates/nvbench/out/nvbench
+mr=crates/mrbench/out/mrbench
 
 compare() {
   left=${1:-100000}
@@ -49,7 +50,7 @@ most = resource.getrusage(resource.RUSAGE_CHILDREN).ru_maxrss
 assert done.returncode == 0, done
 open(sys.argv[2], "wb").write(done.stdout)
 print(f"{sys.argv[3]} on {sys.argv[4]}bench: {done.stdout[:40]!r}, {most} kB at most")
-' "target/bin/${bench}bench" "$work/edge.out" "$name" "$bench"
+' "crates/${bench}bench/out/${bench}bench" "$work/edge.out" "$name" "$bench"
     "$@" | "$model" "$bench" | cmp - "$work/edge.out"
   done
 }
@@ -83,7 +84,7 @@ def run(command, data):
 model, turns = sys.argv[1], int(sys.argv[2])
 for bench in ("nv", "mr"):
     dense = subprocess.run([model, "dense", bench], stdout=subprocess.PIPE, check=True).stdout
-    ours, theirs = [f"target/bin/{bench}bench"], [model, bench]
+    ours, theirs = [f"crates/{bench}bench/out/{bench}bench"], [model, bench]
     assert subprocess.run(ours, input=dense, stdout=subprocess.PIPE).stdout == subprocess.run(theirs, input=dense, stdout=subprocess.PIPE).stdout
     times = [(run(ours, dense), run(ours, b""), run(theirs, dense), run(theirs, b"")) for _ in range(turns)]
     a, a0, b, b0 = (min(column) * 1000 for column in zip(*times))

@@ -19,6 +19,9 @@ TOP = Path(sys.argv[1] if len(sys.argv) > 1 else ".")
 # Where the plain rule would make a name that is taken, or that says something else.
 OTHER = {"bit-xor": "bit_xor_lem"}
 
+# Parameters and names given at an import, which the statements show.
+SHOWN = {"first-kept", "driven-byte"}
+
 WORD = r"[^\s(){}\[\].,;|«»\"λ∀`]+"
 DECLARED = re.compile(r"^\s*(?:(?:abbrev|unfoldable|opaque|pub|private|record|data|class|mod|module)\s+)*(" + WORD + r")(?:\s+[({].*)?\s:(?:\s(?!=)|$)")
 HEAD = re.compile(r"^\s*(?:pub\s+)?(?:record|data)\s+(" + WORD + r")")
@@ -79,7 +82,7 @@ def main():
     clash = names & library_names()
     if clash:
         print("also in the library, left alone:", sorted(clash))
-    names -= clash
+    names = (names - clash) | SHOWN
     new = {name: OTHER.get(name) or (camel(name) if name[0].isupper() else name.replace("-", "_")) for name in sorted(names)}
     words = set()
     texts = {path: path.read_text() for path in files()}

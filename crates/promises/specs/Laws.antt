@@ -70,11 +70,11 @@ ExactlyOne P = (b : ℕ) × (P b × ((c : ℕ) → P c → c ≡ b))
 -- In every trail an address has exactly one promised byte and exactly one current byte.
 abbrev pub EachAddressHasOnePromisedByte : Type 0
 EachAddressHasOnePromisedByte =
-    (lasting : Bool) (first-kept : List ℕ) (a : ℕ) (trail : List Event) → ExactlyOne (PromisedByte lasting first-kept a trail)
+    (lasting : Bool) (first_kept : List ℕ) (a : ℕ) (trail : List Event) → ExactlyOne (PromisedByte lasting first_kept a trail)
 
 abbrev pub EachAddressHasOneCurrentByte : Type 0
 EachAddressHasOneCurrentByte =
-    (lasting : Bool) (first-kept : List ℕ) (a : ℕ) (trail : List Event) → ExactlyOne (CurrentByte lasting first-kept a trail)
+    (lasting : Bool) (first_kept : List ℕ) (a : ℕ) (trail : List Event) → ExactlyOne (CurrentByte lasting first_kept a trail)
 
 -- What is promised leaves no choice of images: where two runs of the same calls from the same images keep the promises, their
 -- kept images agree at every address, and, if the part is idle, so do their working images.

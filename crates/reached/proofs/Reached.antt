@@ -60,9 +60,9 @@ only_a_keep : (newer older : List Event) (c : ℕ) → keep 0 ∷ [] ≡ newer +
 only_a_keep [] older c split = let z : ◌≡◌ {A = ℕ} 0 1 = cc in omega arith
 only_a_keep (x ∷ newer) older c split = not_nil (put 16 c) newer older (cc)
 
-promises : (first-kept : List ℕ) → PromisedAndLost first-kept
+promises : (first_kept : List ℕ) → PromisedAndLost first_kept
 unfolding step ones ones_in
-promises first-kept = record {
+promises first_kept = record {
   kept_story = refl;
   its_put_is_promised = record {
     behind = keep 0 ∷ [];
@@ -72,9 +72,9 @@ promises first-kept = record {
     last = λ newer older c split _. only_a_keep newer older c split;
   };
   lost_story = refl;
-  its_put_is_undone = promised_is false first-kept 16 (trail nv_256 (run lost_run));
+  its_put_is_undone = promised_is false first_kept 16 (trail nv_256 (run lost_run));
   and_no_more_current =
-      inr ((λ c s. clean_not_put_since_recall 16 c (trail nv_256 (run lost_run)) refl s), promised_is false first-kept 16 (trail nv_256 (run lost_run)));
+      inr ((λ c s. clean_not_put_since_recall 16 c (trail nv_256 (run lost_run)) refl s), promised_is false first_kept 16 (trail nv_256 (run lost_run)));
   a_read_drives_it = refl;
   and_it_is_current = inl (record { behind = []; before = recall 3 ∷ recall 2 ∷ recall 1 ∷ recall 0 ∷ []; split = refl; standing = tt });
 }

@@ -81,16 +81,16 @@ abbrev pub lost_run : List Act
 lost_run = written ++ (call (Cut false) ∷ awake)
 
 -- For every kept image at the making:
-pub record PromisedAndLost (first-kept : List ℕ) : Type 0 where
+pub record PromisedAndLost (first_kept : List ℕ) : Type 0 where
   pub kept_story : story nv_256 kept_run ≡ woken ++ (put 16 0x5A ∷ keep 0 ∷ [])
   pub its_put_is_promised : LastPromised false 16 (trail nv_256 (run kept_run)) 0x5A
   pub lost_story : story nv_256 lost_run ≡ woken ++ (put 16 0x5A ∷ fade ∷ woken)
   -- the fade undid the put: the byte of the making is promised, and current again
-  pub its_put_is_undone : PromisedByte false first-kept 16 (trail nv_256 (run lost_run)) (slice_index first-kept 16)
-  pub and_no_more_current : CurrentByte false first-kept 16 (trail nv_256 (run lost_run)) (slice_index first-kept 16)
+  pub its_put_is_undone : PromisedByte false first_kept 16 (trail nv_256 (run lost_run)) (slice_index first_kept 16)
+  pub and_no_more_current : CurrentByte false first_kept 16 (trail nv_256 (run lost_run)) (slice_index first_kept 16)
   -- a read drives the put while it stands
   pub a_read_drives_it : drive nv_256 (written ++ (call Select ∷ send (0x03 ∷ 0x00 ∷ 0x10 ∷ 0x00 ∷ []) ∷ [])) ≡ cell 16
-  pub and_it_is_current : CurrentByte false first-kept 16 (trail nv_256 (run written)) 0x5A
+  pub and_it_is_current : CurrentByte false first_kept 16 (trail nv_256 (run written)) 0x5A
 
 -- ---- frames
 
@@ -133,7 +133,7 @@ pub record Reached : Type 0 where
   pub waking : (state nv_256 (call PowerUp ∷ ticks 2 ∷ [])).power ≡ On (Waking 2)
   pub instructions : EachInstruction
   pub refusals : EachRefusal
-  pub promises : (first-kept : List ℕ) → PromisedAndLost first-kept
+  pub promises : (first_kept : List ℕ) → PromisedAndLost first_kept
   pub frames : RightAndDamaged
   pub widest : WidelyDamaged
   pub laws : LawsSpeakOfSomething

@@ -39,8 +39,8 @@ pub record LastPromised (lasting : Bool) (a : ℕ) (trail : List Event) (b : ℕ
 
 -- The promised byte of an address: that of its last promised put, else the kept byte at the making.
 abbrev pub PromisedByte : Bool → List ℕ → ℕ → List Event → ℕ → Type 0
-PromisedByte lasting first-kept a trail b =
-    LastPromised lasting a trail b ⊎ (NonePromised lasting a trail × (b ≡ slice_index first-kept a))
+PromisedByte lasting first_kept a trail b =
+    LastPromised lasting a trail b ⊎ (NonePromised lasting a trail × (b ≡ slice_index first_kept a))
 
 -- an event that parts address a from a put since the last recall
 abbrev pub Supersedes : ℕ → Event → Type 0
@@ -62,5 +62,5 @@ pub record PutSinceRecall (a : ℕ) (trail : List Event) (b : ℕ) : Type 0 wher
 
 -- The current byte of an address: the one last put there since its page's last recall, else its promised byte.
 abbrev pub CurrentByte : Bool → List ℕ → ℕ → List Event → ℕ → Type 0
-CurrentByte lasting first-kept a trail b =
-    PutSinceRecall a trail b ⊎ (((c : ℕ) → PutSinceRecall a trail c → ⊥) × PromisedByte lasting first-kept a trail b)
+CurrentByte lasting first_kept a trail b =
+    PutSinceRecall a trail b ⊎ (((c : ℕ) → PutSinceRecall a trail c → ⊥) × PromisedByte lasting first_kept a trail b)

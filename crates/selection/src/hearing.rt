@@ -1,7 +1,7 @@
 // What a byte does in a selection.
 ghost use Rattle.std.specs.Prelude.{◌≡◌, ◌+◌, ◌*◌, ◌≤◌, false, ltb, [], ◌∷◌, ◌++◌, length, if◌then◌else◌, nat_lt};
 ghost use Rattle.rules.specs.Byte.{heard, is_idle};
-ghost use Rattle.rules.specs.Machine.{driven as driven-byte};
+ghost use Rattle.rules.specs.Machine.{driven as driven_byte};
 ghost use Rattle.rules.specs.State.{unselected};
 ghost use Rattle.rules.specs.Step.{marked};
 ghost use Rattle.status.specs.Status.{status_byte, mask_bits};
@@ -36,7 +36,7 @@ pub fn hear<D: Dialect, C: Cells>(
     value: u8,
 ) -> Heard
     ensures phase { size ≡ 64 * (C.site cells.old).pages → 64 ≤ size → phase_of phase.new ≡ (heard (kind_of D.facts C.lasting (C.site cells.old)) (state_of control.now unselected) activity (phase_of phase.old) value).phase }
-    ensures driven { size ≡ 64 * (C.site cells.old).pages → 64 ≤ size → result.driven ≡ driven-byte (kind_of D.facts C.lasting (C.site cells.old)) (C.images cells.old).working (heard (kind_of D.facts C.lasting (C.site cells.old)) (state_of control.now unselected) activity (phase_of phase.old) value).drive }
+    ensures driven { size ≡ 64 * (C.site cells.old).pages → 64 ≤ size → result.driven ≡ driven_byte (kind_of D.facts C.lasting (C.site cells.old)) (C.images cells.old).working (heard (kind_of D.facts C.lasting (C.site cells.old)) (state_of control.now unselected) activity (phase_of phase.old) value).drive }
     ensures wrote { size ≡ 64 * (C.site cells.old).pages → 64 ≤ size → result.wrote ≡ marked (heard (kind_of D.facts C.lasting (C.site cells.old)) (state_of control.now unselected) activity (phase_of phase.old) value).events false }
     ensures done { size ≡ 64 * (C.site cells.old).pages → 64 ≤ size → Done (kind_of D.facts C.lasting (C.site cells.old)) (heard (kind_of D.facts C.lasting (C.site cells.old)) (state_of control.now unselected) activity (phase_of phase.old) value).events (C.images cells.old) (C.site cells.old) (C.images cells.new) (C.site cells.new) }
     ensures misfit { (size ≡ 64 * (C.site cells.old).pages → 64 ≤ size → ⊥) → Ignored phase.old phase.new result.driven result.wrote (C.images cells.old) (C.images cells.new) (C.site cells.old) (C.site cells.new) }
@@ -61,7 +61,7 @@ fn hear_sized<D: Dialect, C: Cells>(
 ) -> Heard
     requires { (size ≡ 64 * (C.site cells.old).pages) × (64 ≤ size) }
     ensures phase { phase_of phase.new ≡ (heard (kind_of D.facts C.lasting (C.site cells.old)) (state_of control.now unselected) activity (phase_of phase.old) value).phase }
-    ensures driven { result.driven ≡ driven-byte (kind_of D.facts C.lasting (C.site cells.old)) (C.images cells.old).working (heard (kind_of D.facts C.lasting (C.site cells.old)) (state_of control.now unselected) activity (phase_of phase.old) value).drive }
+    ensures driven { result.driven ≡ driven_byte (kind_of D.facts C.lasting (C.site cells.old)) (C.images cells.old).working (heard (kind_of D.facts C.lasting (C.site cells.old)) (state_of control.now unselected) activity (phase_of phase.old) value).drive }
     ensures wrote { result.wrote ≡ marked (heard (kind_of D.facts C.lasting (C.site cells.old)) (state_of control.now unselected) activity (phase_of phase.old) value).events false }
     ensures done { Done (kind_of D.facts C.lasting (C.site cells.old)) (heard (kind_of D.facts C.lasting (C.site cells.old)) (state_of control.now unselected) activity (phase_of phase.old) value).events (C.images cells.old) (C.site cells.old) (C.images cells.new) (C.site cells.new) }
 {

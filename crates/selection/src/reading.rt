@@ -2,7 +2,7 @@
 ghost use Rattle.std.specs.Prelude.{◌≡◌, ◌+◌, ◌*◌, min, slice_index};
 ghost use Rattle.crc.specs.Transfer.{count_of};
 ghost use Rattle.rules.specs.Byte.{secure_drive};
-ghost use Rattle.rules.specs.Machine.{driven as driven-byte, secure_sum};
+ghost use Rattle.rules.specs.Machine.{driven as driven_byte, secure_sum};
 ghost use Rattle.selection.specs.View.{kind_of};
 
 use cells::Cells;
@@ -52,7 +52,7 @@ pub(crate) fn drive_secure<D: Dialect, C: Cells>(
     size: u32,
 ) -> Option<u8>
     requires { size ≡ 64 * (C.site cells.now).pages }
-    ensures { result ≡ driven-byte (kind_of D.facts C.lasting (C.site cells.now)) (C.images cells.now).working (secure_drive from driven) }
+    ensures { result ≡ driven_byte (kind_of D.facts C.lasting (C.site cells.now)) (C.images cells.now).working (secure_drive from driven) }
 {
     match driven {
         0..=63 => Some(read(
