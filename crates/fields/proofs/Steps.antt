@@ -1,5 +1,5 @@
 -- One step of reading after another.
-use Rattle.std.proofs.Common.{◌≡◌, ℕ, suc, ◌+◌, ◌*◌, List, [], ◌∷◌, ◌++◌, Ok, Err, Result, sym, refl, ap, ◌∙◌, subst, append_assoc}
+use Rattle.std.proofs.Common.{◌≡◌, ℕ, suc, ◌+◌, ◌*◌, List, [], ◌∷◌, ◌++◌, Ok, Err, Result, refl, ap, ◌∙◌, append_assoc}
 use Rattle.fields.specs.declared.Unreadable.{Unreadable}
 use Rattle.fields.specs.Fields.{Read, ◌then◌, read_byte, read_bytes, read_highest_first}
 

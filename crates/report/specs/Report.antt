@@ -1,5 +1,5 @@
 -- What is printed of the captured lines: a line for each, and at the end how many were right, wrong and unreadable.
-use Rattle.std.specs.Prelude.{ℕ, ◌+◌, ◌-◌, ◌/◌, ◌%◌, ◌^◌, min, Bool, true, false, cond, List, [], ◌∷◌, ◌++◌, Ok, Err, codes, decimal, Result, nat_lt}
+use Rattle.std.specs.Prelude.{ℕ, ◌+◌, ◌-◌, ◌/◌, ◌%◌, ◌^◌, min, Bool, cond, List, [], ◌∷◌, ◌++◌, Ok, Err, codes, decimal, Result, nat_lt}
 use Rattle.fields.specs.declared.Unreadable.{Unreadable}
 use Rattle.fields.specs.declared.Unreadable.TheVariants.{Empty, Size, AddressBytes, NotHexadecimal, HalfByte, TooShort, TooLong}
 use Rattle.capture.specs.declared.Verdict.{Verdict}

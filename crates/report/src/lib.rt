@@ -140,7 +140,11 @@ fn add_reason(out: &mut String, number: u64, why: Unreadable) -> Result<(), Allo
 }
 
 // Adds to a text what is printed of a line. Fails where memory does.
-pub fn add_line(out: &mut String, number: u64, examined: Result<Verdict, Unreadable>) -> Result<(), AllocError>
+pub fn add_line(
+    out: &mut String,
+    number: u64,
+    examined: Result<Verdict, Unreadable>,
+) -> Result<(), AllocError>
     ensures { OnOk result (string_bytes out.new ≡ string_bytes out.old ++ line_text number examined) }
 {
     match examined {

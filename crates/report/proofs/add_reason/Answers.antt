@@ -1,4 +1,3 @@
-use Rattle.std.proofs.Common.{rules}
 use Rattle.report.proofs.add_reason.Goals as goal
 
 pub returns : goal.returns

@@ -1,4 +1,4 @@
-use Rattle.std.proofs.Common.{◌≡◌, ℕ, ◌+◌, ◌-◌, ◌<◌, List, [], ◌∷◌, ◌++◌, length, take, drop, Some, None, sym, refl, ap, ◌∙◌, append-nil, arith, true-eqb, false-eqb}
+use Rattle.std.proofs.Common.{◌≡◌, ℕ, ◌+◌, ◌-◌, ◌<◌, List, [], ◌∷◌, ◌++◌, length, take, drop, Some, sym, ap, ◌∙◌, append-nil, arith, true-eqb, false-eqb}
 use Rattle.std.proofs.lemmas.List.{take_rest, take_all, drop_all, nil_from_length}
 use Rattle.report.specs.Lines.{cut, lines, first_line}
 use Rattle.report.proofs.Cuts.{behind, passed, found, first_is_cut, other_lines, rest_is_shorter}
