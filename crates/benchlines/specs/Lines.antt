@@ -2,7 +2,6 @@
 use Rattle.std.specs.Prelude.{ℕ, List, [], ◌∷◌, ◌++◌, Some, None, Ok, Err, codes, decimal, Option, Result}
 use Rattle.figures.specs.Figures.{byte_figures}
 use Rattle.runfile.specs.declared.fault.FileFault.{FileFault}
-use Rattle.runfile.specs.declared.fault.Spot.{Spot}
 use Rattle.runfile.specs.declared.letters.Letter.{Letter}
 use Rattle.runfile.specs.declared.letters.Letter.TheVariants.{T, K, C, H, P, Unknown}
 use Rattle.runfile.specs.Numbers.{cause_number}

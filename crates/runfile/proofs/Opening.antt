@@ -1,11 +1,10 @@
 -- What opening a file looks at, pair by pair.
-use Rattle.std.proofs.Common.{◌≡◌, ℕ, zero, suc, ◌+◌, ◌-◌, ◌*◌, ◌<◌, ◌≤◌, Bool, true, false, cond, ◌&&◌, ◌||◌, eqb, ltb, leb, ◌⊎◌, List, [], ◌∷◌, map, length, get_or, take, drop, is_some, Some, None, Option, sym, refl, ap, ◌∙◌, subst, ⊎_elim, eq-or-lt_of_le, arith, MatchOption}
+use Rattle.std.proofs.Common.{◌≡◌, ℕ, zero, suc, ◌+◌, ◌-◌, ◌<◌, ◌≤◌, true, false, cond, ◌&&◌, ◌||◌, eqb, ltb, leb, List, [], ◌∷◌, map, length, is_some, Some, None, Option, sym, refl, ap, ◌∙◌, subst, ⊎_elim, eq-or-lt_of_le, arith, MatchOption}
 use borrow.Author.Tests.{false-ltb}
 use Rattle.std.specs.List.{range_with_len}
 use Rattle.std.proofs.lemmas.Bool.{cond-true, cond-false, cases_Bool, and_parts, and_from, leb-true, le-leb, lt-ltb, le-ltb, cases_lt}
 use Rattle.runfile.specs.declared.fault.OpeningFault.{OpeningFault}
-use Rattle.runfile.specs.declared.fault.OpeningFault.TheVariants.{NoTable, Misplaced, PastEnd}
-use Rattle.runfile.specs.declared.fault.FileFault.{FileFault}
+use Rattle.runfile.specs.declared.fault.OpeningFault.TheVariants.{NoTable}
 use Rattle.runfile.specs.Numbers.{opening_fault_at}
 use Rattle.runfile.specs.Table.{count_of, pair_place, offset_of, length_of, end_of, earliest, has_table, pair_fault, spot, first_fault, opening_fault, Located, record_at, located}
 use Rattle.runfile.specs.declared.reader.Found.{Found}

@@ -1,8 +1,7 @@
 -- Reading a record undoes writing it.
-use Rattle.std.proofs.Common.{◌≡◌, ℕ, ◌≤◌, Bool, true, false, cond, eqb, leb, List, [], ◌∷◌, Ok, Err, Result, sym, refl, ap, ◌∙◌, subst, ap₂, arith}
+use Rattle.std.proofs.Common.{◌≡◌, ℕ, Bool, true, false, eqb, leb, List, [], ◌∷◌, Ok, Err, Result, sym, refl, ap, ◌∙◌, subst, arith}
 use Rattle.std.proofs.lemmas.Bool.{cond-true, cond_both, leb-true, le-leb, eqb-true}
 use Rattle.runfile.specs.declared.fault.RecordFault.{RecordFault}
-use Rattle.runfile.specs.declared.fault.RecordFault.TheVariants.{UnknownLetter, WrongArgument}
 use Rattle.runfile.specs.Letters.{Said, transfer, ticks, cut, hold, power_up, bit, written, InBounds, transfer_said, ticks_said, truth_said, saying, power_up_said, said, ReadsBack}
 
 -- ---- what is written is read

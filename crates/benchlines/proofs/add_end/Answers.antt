@@ -1,4 +1,4 @@
-use Rattle.std.proofs.Common.{◌≡◌, ℕ, ◌^◌, ◌<◌, List, [], ◌∷◌, ◌++◌, vec_items, decimal, sym, ap, ◌∙◌, ap₂, arith}
+use Rattle.std.proofs.Common.{ℕ, ◌^◌, ◌<◌, List, [], ◌∷◌, ◌++◌, vec_items, decimal, sym, ap, ◌∙◌, ap₂, arith}
 use Rattle.benchlines.specs.Lines.{to_go_text}
 use Rattle.benchlines.proofs.Decimal.{few, three}
 use Rattle.benchlines.proofs.add_end.Goals as goal

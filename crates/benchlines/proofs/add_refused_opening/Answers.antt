@@ -1,4 +1,4 @@
-use Rattle.std.proofs.Common.{◌≡◌, ℕ, ◌^◌, ◌<◌, List, [], ◌∷◌, ◌++◌, vec_items, decimal, sym, refl, ap, ◌∙◌, arith}
+use Rattle.std.proofs.Common.{ℕ, ◌^◌, ◌<◌, List, [], ◌∷◌, ◌++◌, vec_items, decimal, refl, ap, ◌∙◌, arith}
 use Rattle.benchlines.proofs.Decimal.{few, five}
 use Rattle.benchlines.proofs.add_refused_opening.Goals as goal
 

@@ -1,4 +1,4 @@
-use Rattle.std.proofs.Common.{◌≡◌, ℕ, ◌^◌, ◌<◌, ◌≤◌, List, [], ◌∷◌, ◌++◌, length, vec_items, decimal, sym, ap, ◌∙◌, arith}
+use Rattle.std.proofs.Common.{◌≡◌, ℕ, ◌^◌, ◌<◌, List, [], ◌∷◌, ◌++◌, length, vec_items, decimal, ap, ◌∙◌, arith}
 use Rattle.runfile.specs.Seen.{letter_text}
 use Rattle.benchlines.proofs.Decimal.{few, letter_long, five}
 use Rattle.benchlines.proofs.add_start.Goals as goal

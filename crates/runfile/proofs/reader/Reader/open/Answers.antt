@@ -1,4 +1,4 @@
-use Rattle.std.proofs.Common.{◌≡◌, ◌<◌, ◌≤◌, Some, sym, refl, ap, ◌∙◌, subst, arith}
+use Rattle.std.proofs.Common.{◌<◌, ◌≤◌, Some, sym, refl, ap, ◌∙◌, arith}
 use Rattle.runfile.specs.Table.{count_of}
 use Rattle.runfile.proofs.Opening.{passed, stopped, no_table, all_passed, earliest_next}
 use Rattle.runfile.proofs.reader.Reader.open.Goals as goal

@@ -1,6 +1,6 @@
 -- the pairs so far have no fault, and the floor is where the next record may start
-use Rattle.std.proofs.Common.{◌≡◌, ◌≤◌}
-use Rattle.runfile.specs.Table.{count_of, earliest}
+use Rattle.std.proofs.Common.{◌≡◌}
+use Rattle.runfile.specs.Table.{earliest}
 use Rattle.runfile.proofs.Opening.{UpTo}
 use Rattle.runfile.proofs.reader.Reader.open.Given as goal
 
