@@ -1,5 +1,5 @@
 -- A frame's sum, worked out from its bytes.
-use Rattle.std.proofs.Common.{◌≡◌, ℕ, ◌+◌, ◌-◌, ◌*◌, ◌%◌, ◌<◌, eqb, List, [], ◌∷◌, ◌++◌, length, get_or, take, drop, sym, refl, ap, ◌∙◌, subst, ap₂, arith}
+use Rattle.std.proofs.Common.{◌≡◌, ℕ, ◌+◌, ◌-◌, ◌*◌, ◌%◌, eqb, List, [], ◌∷◌, ◌++◌, length, get_or, take, drop, sym, ap, ◌∙◌, ap₂, arith}
 use native.Mathlib.Nat.{mod-mod}
 use Rattle.std.proofs.lemmas.List.{drop_more, drop_all}
 use Rattle.crc.specs.Sum.{sum_of}

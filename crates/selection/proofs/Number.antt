@@ -1,6 +1,6 @@
 -- Numbers that bytes write, modulo a size.
-use Rattle.std.proofs.Common.{◌≡◌, ℕ, zero, suc, ◌+◌, ◌*◌, ◌/◌, ◌%◌, ◌<◌, List, [], ◌∷◌, ◌++◌, sym, refl, ap, ◌∙◌, ap₂, mul_assoc, mul_comm, add-mul, div-add-mod', arith}
-use native.Mathlib.Nat.{add-mod, mod-add-mod, mod-mod, add-mul-mod_self_right}
+use Rattle.std.proofs.Common.{◌≡◌, ℕ, ◌+◌, ◌*◌, ◌/◌, ◌%◌, List, [], ◌∷◌, ◌++◌, sym, refl, ap, ◌∙◌, mul_assoc, mul_comm, add-mul, div-add-mod', arith}
+use native.Mathlib.Nat.{mod-add-mod, mod-mod, add-mul-mod_self_right}
 use Rattle.rules.specs.Frame.{number_behind, number}
 
 -- 256 times a number, modulo a size, by the remainder alone

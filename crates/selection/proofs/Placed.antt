@@ -1,14 +1,11 @@
 -- One more put of a page.
-use Rattle.std.proofs.Common.{◌≡◌, ℕ, ◌+◌, ◌*◌, ◌%◌, ◌<◌, ◌≤◌, Bool, List, [], ◌∷◌, length, get_or, drop, sym, refl, ap, ◌∙◌, subst, arith}
+use Rattle.std.proofs.Common.{◌≡◌, ℕ, ◌+◌, ◌*◌, ◌%◌, ◌<◌, ◌≤◌, List, [], ◌∷◌, length, get_or, drop, sym, refl, ap, ◌∙◌, subst, arith}
 use Rattle.std.proofs.lemmas.List.{drop_more, drop_all}
 use Rattle.cells.specs.Images.{Images, after_put}
-use Rattle.cells.specs.Laws.{Site}
-use Rattle.dialect.specs.Facts.{Facts}
-use Rattle.rules.specs.Kind.{Kind, pages}
-use Rattle.rules.specs.State.{Event, put}
+use Rattle.rules.specs.Kind.{Kind}
+use Rattle.rules.specs.State.{put}
 use Rattle.rules.specs.Write.{placed}
-use Rattle.rules.specs.Machine.{Changed, Changes}
-use Rattle.selection.specs.View.{kind_of, Done}
+use Rattle.rules.specs.Machine.{Changes}
 
 pub next_put : (k : Kind) (page offset i at b : ℕ) (bytes : List ℕ) (x y j : Images) → i < length bytes → b ≡ get_or bytes i 0
     → at ≡ page * 64 + (offset + i % 64) % 64 → Changes k (put at b ∷ []) x y

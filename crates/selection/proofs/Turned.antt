@@ -1,11 +1,11 @@
 -- A page that is full is accepted.
-use Rattle.std.proofs.Common.{◌≡◌, ℕ, Bool, true, false, cond, not, ◌&&◌, ◌||◌, List, [], ◌∷◌, ◌++◌, sym, refl, ap, ◌∙◌, subst}
-use Rattle.std.proofs.lemmas.Bool.{cond-true, cond_both}
+use Rattle.std.proofs.Common.{◌≡◌, ℕ, Bool, true, false, cond, not, ◌&&◌, ◌||◌, List, [], ◌∷◌, ◌++◌, sym, refl, ap, ◌∙◌}
+use Rattle.std.proofs.lemmas.Bool.{cond-true}
 use Rattle.rules.specs.Kind.{Kind, next_page, page_protected}
-use Rattle.rules.specs.State.{Event, writing_paged}
+use Rattle.rules.specs.State.{writing_paged}
 use Rattle.rules.specs.Step.{marked}
-use Rattle.rules.specs.Write.{first_held, latest, is_full, placed, accepted, fills_page}
-use Rattle.rules.specs.Byte.{Heard, putting, paged}
+use Rattle.rules.specs.Write.{first_held, latest, placed, accepted, fills_page}
+use Rattle.rules.specs.Byte.{putting, paged}
 
 pub paged_full : (k : Kind) (R page first : ℕ) (held : List ℕ) (blocked : Bool) (b page' first' : ℕ) (held' : List ℕ) (blocked' : Bool)
     → (k.facts.runs_on R && fills_page first held) ≡ true

@@ -1,6 +1,6 @@
 -- A dialect that no maker sells: all that the laws leave open, it uses.
 -- Bytes are put as they arrive, and yet it stores and recalls; read has two opcodes; nothing or everything is protected.
-use Rattle.std.specs.Prelude.{ℕ, Bool, true, false, cond, List, [], ◌∷◌, ◌==◌}
+use Rattle.std.specs.Prelude.{ℕ, true, cond, List, [], ◌∷◌, ◌==◌}
 use Rattle.dialect.specs.Facts.{Facts, bit, lookup}
 use Rattle.dialect.specs.declared.Instruction.{Instruction}
 use Rattle.dialect.specs.declared.Instruction.TheVariants.{Enable, ReadStatus, WriteStatus, Read, Write, Store, Recall}

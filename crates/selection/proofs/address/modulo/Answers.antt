@@ -1,4 +1,4 @@
-use Rattle.std.proofs.Common.{◌+◌, ◌*◌, ◌%◌, get_or, drop, sym, refl, ap, ◌∙◌, mod-lt, mod-eq_of_lt, arith}
+use Rattle.std.proofs.Common.{◌+◌, ◌*◌, ◌%◌, get_or, drop, sym, ap, ◌∙◌, mod-lt, mod-eq_of_lt}
 use native.Mathlib.Nat.{mod-mod}
 use Rattle.std.proofs.lemmas.List.{drop_more, drop_all}
 use Rattle.rules.specs.Frame.{number_behind}

@@ -1,9 +1,9 @@
-use Rattle.std.proofs.Common.{◌≡◌, false, sym, refl, ap, ◌∙◌, subst}
+use Rattle.std.proofs.Common.{false, sym, ap, ◌∙◌, subst}
 use Rattle.rules.specs.State.{unselected, with_written, with_selection, with_failed}
 use Rattle.rules.specs.Release.{Ended, disabled}
 use Rattle.rules.specs.Step.{ended_out}
 use Rattle.selection.specs.View.{kind_of, state_of, Done}
-use Rattle.selection.proofs.Framed.{framed, placed_frame}
+use Rattle.selection.proofs.Framed.{framed}
 use Rattle.selection.proofs.ending.end_frame.Goals as goal
 
 pub returns : goal.returns

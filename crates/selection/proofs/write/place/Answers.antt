@@ -1,4 +1,4 @@
-use Rattle.std.proofs.Common.{◌≡◌, ◌+◌, ◌*◌, ◌%◌, [], ◌∷◌, get_or, refl, ◌∙◌, subst}
+use Rattle.std.proofs.Common.{◌+◌, ◌*◌, ◌%◌, [], ◌∷◌, get_or, refl, ◌∙◌, subst}
 use Rattle.rules.specs.State.{put}
 use Rattle.rules.specs.Machine.{Changes}
 use Rattle.selection.specs.View.{kind_of}

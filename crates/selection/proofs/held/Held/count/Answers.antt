@@ -1,4 +1,4 @@
-use Rattle.std.proofs.Common.{◌≡◌, ℕ, length, arith}
+use Rattle.std.proofs.Common.{◌≡◌, length, arith}
 use Rattle.selection.proofs.Items.{all_held}
 use Rattle.selection.proofs.held.Held.count.Goals as goal
 

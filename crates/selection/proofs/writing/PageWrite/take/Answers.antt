@@ -1,4 +1,4 @@
-use Rattle.std.proofs.Common.{false, cond, [], ◌∷◌, drop, sym, refl, ap, ◌∙◌, subst}
+use Rattle.std.proofs.Common.{false, cond, drop, sym, ap, ◌∙◌, subst}
 use Rattle.rules.specs.Step.{marked}
 use Rattle.rules.specs.Byte.{Heard}
 use Rattle.rules.specs.Write.{is_full}
