@@ -1,8 +1,7 @@
 -- The bits of numbers and of messages, as they are sent.
-use Rattle.std.proofs.Common.{◌≡◌, ℕ, zero, suc, ◌+◌, ◌-◌, ◌*◌, ◌/◌, ◌%◌, ◌^◌, ◌<◌, ◌≤◌, Bool, eqb, List, [], ◌∷◌, ◌++◌, sym, refl, ap, ◌∙◌, subst, ap₂, suc-mul, add_comm, suc-add, pow-suc, zero-add, arith}
+use Rattle.std.proofs.Common.{◌≡◌, ℕ, zero, suc, ◌+◌, ◌-◌, ◌*◌, ◌/◌, ◌%◌, ◌^◌, ◌<◌, ◌≤◌, eqb, ◌∷◌, ◌++◌, sym, refl, ap, ◌∙◌, ap₂, suc-mul, add_comm, suc-add, pow-suc, zero-add, arith}
 use native.Mathlib.Nat.{div-eq_of_lt}
 use Rattle.std.proofs.lemmas.Nat.{pow-add, shr-shr, field_of, mod-pow-add}
-use Rattle.std.proofs.lemmas.List.{append_assoc}
 use Rattle.crc.specs.Sum.{bits, message_bits}
 use Rattle.crc.specs.Transfer.{highest_first}
 

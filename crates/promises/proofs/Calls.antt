@@ -1,9 +1,8 @@
 -- What one call of a sound part lists and drives: its puts are free and enabled, and what it reads is there.
-use Rattle.std.proofs.Common.{◌≡◌, ℕ, zero, suc, ◌+◌, ◌-◌, ◌*◌, ◌/◌, ◌%◌, ◌^◌, ◌<◌, ◌≤◌, Bool, true, false, cond, ◌&&◌, eqb, ltb, ◌⊎◌, List, [], ◌∷◌, ◌++◌, Ok, Err, Result, sym, refl, ap, ◌∙◌, subst, inl, inr, arith}
-use Rattle.std.proofs.lemmas.Bool.{cond_both, both_ways}
-use Rattle.refusal.specs.declared.Refusal.{Refusal}
-use Rattle.refusal.specs.declared.Refusal.TheVariants.{Dead, AlreadySelected}
-use Rattle.dialect.specs.Facts.{Facts, Lawful, Within, Alive}
+use Rattle.std.proofs.Common.{◌≡◌, ℕ, zero, suc, ◌+◌, ◌-◌, ◌*◌, ◌/◌, ◌%◌, ◌<◌, Bool, true, false, cond, ◌&&◌, eqb, ltb, List, [], ◌∷◌, ◌++◌, sym, refl, ◌∙◌, subst, inl, inr, arith}
+use Rattle.std.proofs.lemmas.Bool.{cond_both}
+use Rattle.refusal.specs.declared.Refusal.TheVariants.{Dead}
+use Rattle.dialect.specs.Facts.{Lawful}
 use Rattle.dialect.specs.Sizes.{whole_256s}
 use Rattle.rules.specs.declared.Activity.{Activity}
 use Rattle.rules.specs.declared.Activity.TheVariants.{Idle, Storing, Recalling, Waking}
@@ -12,16 +11,15 @@ use Rattle.rules.specs.declared.Power.TheVariants.{Off, On}
 use Rattle.rules.specs.declared.Call.{Call}
 use Rattle.rules.specs.declared.Call.TheVariants.{Select, Byte, Release, Tick, Cut, PowerUp}
 use Rattle.rules.specs.Kind.{Kind, alive, pages, protected}
-use Rattle.rules.specs.State.{State, with_selection, Selection, unselected, selected, Phase, opcode, turned_away, command, reading_status, writing_status, address, reading, reading_secure, writing_paged, writing_direct, frame, frame_too_long, Event, put, keep, recall, fade, Drive, undriven, status, cell, sum_high, sum_low}
+use Rattle.rules.specs.State.{State, with_selection, Selection, unselected, selected, Phase, opcode, turned_away, command, reading_status, writing_status, address, reading, reading_secure, writing_paged, writing_direct, frame, frame_too_long, Event, put, keep, recall, fade, Drive, undriven, cell}
 use Rattle.rules.specs.Byte.{Heard, heard, secure_drive}
 use Rattle.rules.specs.Write.{fills_page}
-use Rattle.rules.specs.Release.{Ended, ended}
-use Rattle.rules.specs.Power.{Ticked, ticked, onward, keeps, saved, cut_events}
-use Rattle.rules.specs.Step.{Out, step, refusing, on_select, on_byte, on_release, on_tick, on_cut, on_call, off_call, live_call}
+use Rattle.rules.specs.Power.{ticked, keeps, saved, cut_events}
+use Rattle.rules.specs.Step.{Out, step, refusing, on_select, on_byte, on_release, on_tick, on_call, off_call, live_call}
 use Rattle.rules.specs.History.{state_after, after}
 use Rattle.promises.specs.Promises.{Puts, latch_at_select, latch_if_done}
 use Rattle.promises.proofs.Phases.{InPhase, InSelection}
-use Rattle.promises.proofs.Puts.{alive_is, Free, heard_free, heard_enabled, ended_fine, ended_enabled, Fine}
+use Rattle.promises.proofs.Puts.{alive_is, heard_free, heard_enabled, ended_fine, ended_enabled}
 use Rattle.promises.proofs.Control.{Sound}
 
 -- ---- puts

@@ -1,28 +1,26 @@
 -- Every history's control state and trail are sound: no page is kept while one of its bytes is lost, and no put lies where
 -- it must not.
-use Rattle.std.proofs.Common.{◌≡◌, ℕ, zero, suc, ◌+◌, ◌-◌, ◌*◌, ◌/◌, ◌<◌, ◌≤◌, Bool, true, false, cond, ◌&&◌, eqb, ltb, ◌⊎◌, List, [], ◌∷◌, ◌++◌, Ok, Err, Result, sym, refl, ap, ◌∙◌, subst, inl, inr, arith}
-use lib.Bits.{bit_and}
-use Rattle.std.proofs.lemmas.Bool.{cases_eq, cond_both, cond-true, cond-false, ltb-false, both_ways}
-use Rattle.refusal.specs.declared.Refusal.{Refusal}
-use Rattle.dialect.specs.Facts.{Facts, Lawful, Within}
+use Rattle.std.proofs.Common.{◌≡◌, ℕ, zero, suc, ◌+◌, ◌-◌, ◌*◌, ◌/◌, ◌<◌, Bool, true, false, cond, ◌&&◌, ltb, List, [], ◌∷◌, ◌++◌, sym, refl, ◌∙◌, subst, inl, inr, arith}
+use Rattle.std.proofs.lemmas.Bool.{cases_eq, cond_both, ltb-false}
+use Rattle.dialect.specs.Facts.{Lawful, Within}
 use Rattle.rules.specs.declared.Activity.{Activity}
 use Rattle.rules.specs.declared.Activity.TheVariants.{Idle, Storing, Recalling, Waking}
 use Rattle.rules.specs.declared.Power.{Power}
 use Rattle.rules.specs.declared.Power.TheVariants.{Off, On}
 use Rattle.rules.specs.declared.Call.{Call}
 use Rattle.rules.specs.declared.Call.TheVariants.{Select, Byte, Release, Tick, Cut, PowerUp}
-use Rattle.rules.specs.Kind.{Kind, alive, pages, protected}
+use Rattle.rules.specs.Kind.{Kind, alive, pages}
 use Rattle.rules.specs.State.{State, with_selection, Selection, unselected, selected, Phase, opcode, turned_away, command, reading_status, writing_status, address, reading, reading_secure, writing_paged, writing_direct, frame, frame_too_long, Event, put, keep, recall, fade}
-use Rattle.rules.specs.Byte.{Heard, heard}
-use Rattle.rules.specs.Release.{Ended, ended}
-use Rattle.rules.specs.Power.{Ticked, ticked, onward, keeps, saved, cut_events}
-use Rattle.rules.specs.Step.{Out, step, refusing, on_select, on_byte, on_release, on_tick, on_cut, on_call, off_call, live_call}
-use Rattle.rules.specs.History.{state_after, after, onto, trail}
-use Rattle.promises.specs.Promises.{Puts, latch_at_select, latch_if_done}
-use Rattle.promises.proofs.Marks.{Mark, fresh, clean, lost, mark, if_same, if_other, fresh_not_lost, clean_not_lost}
+use Rattle.rules.specs.Byte.{heard}
+use Rattle.rules.specs.Release.{ended}
+use Rattle.rules.specs.Power.{keeps, saved, cut_events}
+use Rattle.rules.specs.Step.{Out, step, on_select, on_byte, on_release, on_tick, on_call, off_call, live_call}
+use Rattle.rules.specs.History.{state_after, onto, trail}
+use Rattle.promises.specs.Promises.{Puts}
+use Rattle.promises.proofs.Marks.{fresh, clean, lost, mark, if_same, if_other, fresh_not_lost, clean_not_lost}
 use Rattle.promises.proofs.Data.{Fair}
 use Rattle.promises.proofs.Phases.{InPhase, InSelection, heard_phase}
-use Rattle.promises.proofs.Puts.{AllPuts, Free, none_put, heard_free, heard_enabled, Powered, same, stores, recalls, Fine, ended_fine, ended_enabled}
+use Rattle.promises.proofs.Puts.{AllPuts, none_put, heard_free, heard_enabled, Powered, same, stores, recalls, ended_fine, ended_enabled}
 
 -- none of the first m pages has a lost byte
 abbrev pub Live : ℕ → List Event → Type 0

@@ -1,9 +1,8 @@
 -- What the images hold after a trail in which no page was kept while one of its bytes was lost.
-use Rattle.std.proofs.Common.{◌≡◌, ℕ, ◌*◌, ◌/◌, ◌<◌, ◌≤◌, Bool, true, false, cond, eqb, ltb, ◌⊎◌, List, [], ◌∷◌, ◌++◌, length, get_or, set, sym, refl, ap, ◌∙◌, subst, subst₂, inl, inr, arith}
+use Rattle.std.proofs.Common.{◌≡◌, ℕ, ◌*◌, ◌/◌, ◌<◌, Bool, true, false, cond, ltb, List, [], ◌∷◌, length, get_or, set, sym, refl, ap, ◌∙◌, subst, subst₂, inl, inr, arith}
 use Rattle.std.proofs.lemmas.List.{length-set, get_or-set_same, get_or-set_other}
 use Rattle.std.proofs.lemmas.Bool.{cases_eq, cond_both, cond-true, lt-ltb}
-use Rattle.cells.specs.Images.{Images, with_page, after_put, after_keep, after_recall}
-use Rattle.cells.specs.Laws.{Bytes}
+use Rattle.cells.specs.Images.{Images, after_put, after_keep, after_recall}
 use Rattle.rules.specs.Kind.{Kind, pages}
 use Rattle.rules.specs.State.{Event, put, keep, recall, fade}
 use Rattle.rules.specs.Machine.{Changed}

@@ -1,17 +1,16 @@
 -- Secure frames sent whole to an idle enabled part: which are answered 17, and that they alter nothing.
-use Rattle.std.proofs.Common.{◌≡◌, ℕ, zero, suc, ◌+◌, ◌-◌, ◌*◌, ◌/◌, ◌%◌, ◌^◌, ◌<◌, ◌≤◌, Bool, true, false, cond, eqb, ltb, leb, ◌↔◌, List, [], ◌∷◌, ◌++◌, map, length, Some, None, Ok, Err, Result, sym, refl, ap, ◌∙◌, subst, ap₂, inl, inr, mod-lt, arith}
+use Rattle.std.proofs.Common.{◌≡◌, ℕ, ◌+◌, ◌-◌, ◌*◌, ◌/◌, ◌%◌, ◌^◌, ◌<◌, ◌≤◌, Bool, true, false, eqb, ltb, List, [], ◌∷◌, ◌++◌, length, Some, Ok, Err, sym, refl, ap, ◌∙◌, subst, ap₂, inl, inr, mod-lt, arith}
 use Rattle.std.proofs.lemmas.Nat.{pow_below, pow_pos}
-use Rattle.std.proofs.lemmas.List.{append_assoc, append-nil, length-append, map-append}
-use Rattle.std.proofs.lemmas.Bool.{cond-true, cond-false, cond_both, eq-eqb, lt-ltb, eqb-true, cases_Bool, cases_lt, both_ways, true≢false}
-use Rattle.refusal.specs.declared.Refusal.{Refusal}
-use Rattle.refusal.specs.declared.Refusal.TheVariants.{WrongSum, Protected}
+use Rattle.std.proofs.lemmas.List.{append_assoc, append-nil, length-append}
+use Rattle.std.proofs.lemmas.Bool.{cond-true, cond-false, cond_both, eq-eqb, lt-ltb, eqb-true, cases_lt}
+use Rattle.refusal.specs.declared.Refusal.TheVariants.{WrongSum}
 use Rattle.cells.specs.Images.{Images}
-use Rattle.crc.specs.Sum.{bits, message_bits, sum_of}
+use Rattle.crc.specs.Sum.{bits, message_bits}
 use Rattle.crc.specs.Transfer.{highest_first, pair}
 use Rattle.crc.proofs.Runs.{bits_append}
 use Rattle.detect.specs.Damage.{EndsWithSum, Burst}
 use Rattle.detect.proofs.Message.{burst_is_caught}
-use Rattle.dialect.specs.Facts.{Facts, Lawful, Alive}
+use Rattle.dialect.specs.Facts.{Lawful}
 use Rattle.dialect.specs.declared.Instruction.TheVariants.{SecureWrite}
 use Rattle.rules.specs.declared.Activity.{Activity}
 use Rattle.rules.specs.declared.Activity.TheVariants.{Idle}
@@ -19,13 +18,13 @@ use Rattle.rules.specs.declared.Power.TheVariants.{On}
 use Rattle.rules.specs.declared.Call.{Call}
 use Rattle.rules.specs.declared.Call.TheVariants.{Select, Byte, Release}
 use Rattle.rules.specs.Kind.{Kind, alive, page_protected}
-use Rattle.rules.specs.State.{State, unselected, selected, opcode, frame, frame_too_long, with_selection, Phase, Event, undriven}
+use Rattle.rules.specs.State.{State, unselected, selected, opcode, frame, with_selection, undriven}
 use Rattle.rules.specs.Opcode.{opened}
 use Rattle.rules.specs.Frame.{frame_length, frame_address, frame_data, frame_sum, is_right, frame_place}
-use Rattle.rules.specs.Byte.{heard, quiet}
-use Rattle.rules.specs.Release.{Ended, ended, whole, frame_ended, disabled}
+use Rattle.rules.specs.Byte.{quiet}
+use Rattle.rules.specs.Release.{Ended, frame_ended}
 use Rattle.rules.specs.Step.{Out, step, on_call, live_call, on_select, heard_out, ended_out}
-use Rattle.rules.specs.Machine.{Moment, Obeys, Changes}
+use Rattle.rules.specs.Machine.{Moment, Changes}
 use Rattle.rules.specs.History.{state_after, after, calls_of, images_after, Run}
 use Rattle.promises.specs.Promises.{sent, SentWhole, newest_answer, Unaltered, counting_bits, FramePromises}
 use Rattle.promises.proofs.Bits.{bytes_bits, bytes_power, small_bits, bits_mod}

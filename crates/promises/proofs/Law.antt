@@ -1,9 +1,9 @@
 -- The promised byte of the law is the one that `promised` computes.
-use Rattle.std.proofs.Common.{◌≡◌, ℕ, ◌/◌, Bool, true, false, cond, eqb, ◌⊎◌, List, [], ◌∷◌, ◌++◌, get_or, sym, refl, ap, ◌∙◌, subst, inl, inr, ⊎_elim, arith}
+use Rattle.std.proofs.Common.{◌≡◌, ℕ, ◌/◌, Bool, true, false, cond, eqb, ◌⊎◌, List, [], ◌∷◌, ◌++◌, sym, refl, ap, ◌∙◌, subst, inl, inr, arith}
 use Rattle.std.proofs.lemmas.List.{append_assoc}
 use Rattle.std.proofs.lemmas.Bool.{cases_eq, false≢true}
 use Rattle.rules.specs.State.{Event, put, keep, recall, fade}
-use Rattle.rules.specs.Trail.{Disturbs, Undisturbed, KeptLater, Promised, NonePromised, LastPromised, PromisedByte}
+use Rattle.rules.specs.Trail.{Undisturbed, KeptLater, Promised, NonePromised, LastPromised, PromisedByte}
 use Rattle.promises.proofs.Marks.{Mark, fresh, clean, lost, mark, settled, promised, if_same, if_other, Since, since_mark, mark_since, fresh_not_clean, fresh_not_lost}
 
 pub not_nil : (e : Event) (xs ys : List Event) → [] ≡ xs ++ (e ∷ ys) → ⊥

@@ -1,5 +1,5 @@
 -- The small laws.
-use Rattle.std.proofs.Common.{◌≡◌, ℕ, zero, suc, ◌+◌, ◌-◌, ◌/◌, ◌≤◌, Bool, true, false, cond, ◌&&◌, ltb, ◌⊎◌, List, [], ◌∷◌, ◌++◌, get_or, sym, refl, ap, ◌∙◌, subst, ap₂, inl, inr, arith}
+use Rattle.std.proofs.Common.{◌≡◌, ℕ, zero, suc, ◌+◌, ◌-◌, ◌/◌, ◌≤◌, Bool, true, false, ◌&&◌, ltb, ◌⊎◌, List, [], ◌∷◌, ◌++◌, get_or, sym, refl, ap, ◌∙◌, subst, ap₂, inl, inr, arith}
 use Rattle.std.proofs.lemmas.Bool.{cases_eq, cond-true, cond_both, and_parts}
 use Rattle.rules.specs.declared.Activity.{Activity}
 use Rattle.rules.specs.declared.Activity.TheVariants.{Idle, Storing, Recalling, Waking}
@@ -8,13 +8,10 @@ use Rattle.rules.specs.declared.Power.TheVariants.{Off, On}
 use Rattle.rules.specs.declared.Call.TheVariants.{Byte, Release, Tick, Cut}
 use Rattle.rules.specs.Kind.{Kind, alive, pages}
 use Rattle.rules.specs.State.{State, selected, reading_status, Event, put, keep, recall, fade}
-use Rattle.rules.specs.Byte.{heard}
-use Rattle.rules.specs.Release.{ended}
-use Rattle.rules.specs.Power.{ticked, keeps, saved, cut_events}
+use Rattle.rules.specs.Power.{keeps, saved, cut_events}
 use Rattle.rules.specs.Step.{Out, step, on_byte, on_release, live_call}
 use Rattle.rules.specs.History.{state_after, trail, calls_of, images_after}
 use Rattle.rules.specs.Trail.{Supersedes, Standing, LastPromised, PromisedByte, PutSinceRecall, CurrentByte}
-use Rattle.promises.specs.Promises.{Promises, EndsWaking}
 use Rattle.promises.specs.Laws.{PowerStoreOffDoesNotStopAStore, Keeps, NoOtherCutKeeps, IdleCutKeepsEveryPage, PromisesPinTheKeptImage, PromisesPinTheIdleWorkingImage, WakingLeavesTheKeptImage, ProtectionDoesNotHoldBackARecall, ReadingStatusDoesNotClearTheFailMark, EachAddressHasOnePromisedByte, EachAddressHasOneCurrentByte}
 use Rattle.promises.proofs.Marks.{promised}
 use Rattle.promises.proofs.Law.{promised_is, not_nil}

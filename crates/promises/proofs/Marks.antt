@@ -1,8 +1,8 @@
 -- What a trail says of one address, computed from its newest event on.
-use Rattle.std.proofs.Common.{◌≡◌, ℕ, ◌/◌, Bool, true, false, cond, eqb, List, [], ◌∷◌, ◌++◌, get_or, sym, refl, ap, ◌∙◌, subst, inl, inr, arith}
+use Rattle.std.proofs.Common.{◌≡◌, ℕ, ◌/◌, Bool, cond, eqb, List, [], ◌∷◌, ◌++◌, get_or, sym, refl, ap, ◌∙◌, inl, inr, arith}
 use Rattle.std.proofs.lemmas.Bool.{cond-true, cond-false, eq-eqb, ne_eqb, cases_eq}
 use Rattle.rules.specs.State.{Event, put, keep, recall, fade}
-use Rattle.rules.specs.Trail.{Disturbs, Undisturbed, Supersedes, Standing, PutSinceRecall}
+use Rattle.rules.specs.Trail.{Disturbs, Undisturbed, Standing, PutSinceRecall}
 
 -- the working byte of an address: put since, as recalled, or lost
 pub data Mark : Type 0 where

@@ -1,22 +1,21 @@
 -- What the phase of a selection says of the part: an accepted instruction other than read status finds the part idle until
 -- it is released, a write finds the latch set, and the status bits stay within the mask.
-use Rattle.std.proofs.Common.{◌≡◌, ℕ, zero, suc, ◌+◌, ◌*◌, ◌/◌, ◌%◌, ◌<◌, ◌≤◌, Bool, true, false, cond, not, ◌&&◌, eqb, ltb, leb, ◌⊎◌, List, [], ◌∷◌, ◌++◌, length, Some, None, Option, sym, refl, ap, ◌∙◌, subst, inl, inr, mod-lt, arith}
-use lib.Bits.{bit_and}
-use Rattle.std.proofs.lemmas.Bool.{cond_both, cases_Bool, both_ways, false≢true, leb-true, and_parts}
+use Rattle.std.proofs.Common.{◌≡◌, ℕ, ◌+◌, ◌<◌, ◌≤◌, Bool, true, false, cond, not, ◌&&◌, ltb, leb, length, Some, None, Option, sym, refl, mod-lt, arith}
+use Rattle.std.proofs.lemmas.Bool.{cond_both, false≢true, leb-true, and_parts}
 use Rattle.refusal.specs.declared.Refusal.TheVariants.{Busy}
-use Rattle.dialect.specs.Facts.{Facts, Lawful, Within}
+use Rattle.dialect.specs.Facts.{Facts, Lawful}
 use Rattle.dialect.specs.declared.Instruction.{Instruction}
 use Rattle.dialect.specs.declared.Instruction.TheVariants.{Enable, Disable, ReadStatus, WriteStatus, Read, Write, SecureRead, SecureWrite, Store, Recall, Nothing}
 use Rattle.rules.specs.declared.Activity.{Activity}
 use Rattle.rules.specs.declared.Activity.TheVariants.{Idle, Storing, Recalling, Waking}
 use Rattle.rules.specs.declared.Power.{Power}
-use Rattle.rules.specs.declared.Power.TheVariants.{Off, On}
-use Rattle.rules.specs.Kind.{Kind, alive, next, protected, page_protected}
+use Rattle.rules.specs.declared.Power.TheVariants.{On}
+use Rattle.rules.specs.Kind.{Kind, alive, protected}
 use Rattle.rules.specs.State.{State, Selection, unselected, selected, Phase, opcode, turned_away, command, reading_status, writing_status, address, reading, reading_secure, writing_paged, writing_direct, frame, frame_too_long}
-use Rattle.rules.specs.Opcode.{is_write, is_read_status, named, is_busy, begin, known, opened}
+use Rattle.rules.specs.Opcode.{is_write, is_read_status, named, begin, known, opened}
 use Rattle.rules.specs.Write.{fills_page}
 use Rattle.rules.specs.Frame.{frame_length}
-use Rattle.rules.specs.Byte.{Heard, heard, located, paged, direct}
+use Rattle.rules.specs.Byte.{Heard, heard, located}
 
 abbrev pub InPhase : Kind → Power → Bool → Phase → Type 0
 InPhase k p l opcode = Unit {0}

@@ -1,24 +1,22 @@
 -- Which puts a byte or a release lists: none under protection, and only puts.
-use Rattle.std.proofs.Common.{◌≡◌, ℕ, zero, suc, ◌+◌, ◌*◌, ◌/◌, ◌%◌, ◌<◌, ◌≤◌, Bool, true, false, cond, not, ◌&&◌, ◌||◌, eqb, ltb, leb, ◌⊎◌, List, [], ◌∷◌, ◌++◌, length, Some, None, Option, sym, refl, ap, ◌∙◌, subst, ap₂, inl, inr, arith}
-use lib.Bits.{bit_and}
-use Rattle.std.proofs.lemmas.Bool.{cond_both, cases_Bool, both_ways, leb-true, leb-false, ltb-true, ltb-false, le-leb, lt-leb, lt-ltb, le-ltb, and_parts, eqb-true, cases_lt}
-use Rattle.dialect.specs.Facts.{Facts, Lawful, Within, Alive, EachRange}
+use Rattle.std.proofs.Common.{◌≡◌, ℕ, ◌+◌, ◌*◌, ◌/◌, ◌%◌, ◌<◌, Bool, true, false, ◌&&◌, eqb, ltb, leb, List, [], ◌∷◌, length, sym, refl, ap, ◌∙◌, subst, ap₂, inl, inr, arith}
+use Rattle.std.proofs.lemmas.Bool.{cond_both, leb-true, le-leb, lt-leb, lt-ltb, le-ltb, and_parts, eqb-true, cases_lt}
+use Rattle.dialect.specs.Facts.{Lawful, Within, Alive}
 use Rattle.powers.proofs.Powers.{power_of_one_bit}
 use Rattle.dialect.specs.declared.Instruction.{Instruction}
 use Rattle.dialect.specs.declared.Instruction.TheVariants.{Enable, Disable, ReadStatus, WriteStatus, Read, Write, SecureRead, SecureWrite, Store, Recall, Nothing}
-use Rattle.status.specs.Status.{mask_bits}
 use Rattle.status.proofs.Bits.{masked_twice}
 use Rattle.rules.specs.declared.Activity.{Activity}
-use Rattle.rules.specs.declared.Activity.TheVariants.{Idle, Storing, Recalling, Waking}
+use Rattle.rules.specs.declared.Activity.TheVariants.{Idle, Storing, Recalling}
 use Rattle.rules.specs.declared.Power.{Power}
-use Rattle.rules.specs.declared.Power.TheVariants.{Off, On}
-use Rattle.rules.specs.Kind.{Kind, alive, next, next_page, protected, page_protected}
+use Rattle.rules.specs.declared.Power.TheVariants.{On}
+use Rattle.rules.specs.Kind.{Kind, alive, protected, page_protected}
 use Rattle.rules.specs.State.{State, Phase, opcode, turned_away, command, reading_status, writing_status, address, reading, reading_secure, writing_paged, writing_direct, frame, frame_too_long, Event, put, keep, recall, fade}
 use Rattle.rules.specs.Opcode.{is_write}
 use Rattle.rules.specs.Write.{placed, accepted, fills_page, first_held, latest}
 use Rattle.rules.specs.Frame.{frame_length, is_right, frame_place, frame_data}
 use Rattle.rules.specs.Byte.{Heard, heard}
-use Rattle.rules.specs.Release.{Ended, ended, whole, refused, done, disabled, effect, write_ended, paged_ended, frame_ended}
+use Rattle.rules.specs.Release.{Ended, ended, whole, refused, done, disabled, effect, frame_ended}
 use Rattle.promises.specs.Promises.{Puts}
 use Rattle.promises.proofs.Phases.{InPhase}
 

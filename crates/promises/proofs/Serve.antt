@@ -1,16 +1,13 @@
 -- A call that is the rules' step is served: it carries every history on.
-use Rattle.std.proofs.Common.{◌≡◌, ℕ, List, [], ◌∷◌, Option, Result, sym, refl, ap, ◌∙◌, subst}
+use Rattle.std.proofs.Common.{◌≡◌, ℕ, ◌∷◌, Option, Result, sym, refl, ap, ◌∙◌, subst}
 use Rattle.refusal.specs.declared.Refusal.{Refusal}
-use Rattle.cells.specs.Images.{Images}
-use Rattle.dialect.specs.Facts.{Facts, Lawful}
+use Rattle.dialect.specs.Facts.{Lawful}
 use Rattle.rules.specs.declared.Call.{Call}
-use Rattle.rules.specs.Kind.{Kind}
-use Rattle.rules.specs.State.{State}
-use Rattle.rules.specs.Step.{Out, step}
+use Rattle.rules.specs.Step.{step}
 use Rattle.rules.specs.Machine.{Moment, Obeys}
 use Rattle.rules.specs.History.{state_after, calls_of, images_after, Run, Throughout}
 use Rattle.promises.specs.Promises.{Promises}
-use Rattle.promises.specs.Served.{Whole, Led, moment, Served}
+use Rattle.promises.specs.Served.{Whole, moment, Served}
 use Rattle.promises.proofs.Whole.{promises_hold}
 
 pub serves : {c : Call} {w w' : Whole} {answer : Result ℕ Refusal} {drove : Option ℕ} → Lawful w.kind.facts

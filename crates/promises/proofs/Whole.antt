@@ -1,28 +1,26 @@
 -- The promises at every moment of every run.
-use Rattle.std.proofs.Common.{◌≡◌, ℕ, ◌+◌, ◌*◌, ◌/◌, ◌%◌, ◌<◌, ◌≤◌, Bool, true, false, cond, ltb, ◌⊎◌, List, [], ◌∷◌, ◌++◌, length, get_or, Some, sym, refl, ap, ◌∙◌, subst, inl, inr, arith}
+use Rattle.std.proofs.Common.{◌≡◌, ℕ, ◌+◌, ◌*◌, ◌<◌, Bool, true, false, cond, ltb, List, [], ◌∷◌, get_or, Some, sym, refl, ap, ◌∙◌, subst, inl, inr, arith}
 use Rattle.std.proofs.lemmas.Bool.{cond-false, cases_Bool, ltb-false}
 use Rattle.cells.specs.Images.{Images}
-use Rattle.dialect.specs.Facts.{Facts, Lawful}
+use Rattle.dialect.specs.Facts.{Lawful}
 use Rattle.dialect.specs.Sizes.{whole_256s}
 use Rattle.rules.specs.declared.Activity.{Activity}
 use Rattle.rules.specs.declared.Activity.TheVariants.{Idle, Waking}
-use Rattle.rules.specs.declared.Power.{Power}
 use Rattle.rules.specs.declared.Power.TheVariants.{Off, On}
 use Rattle.rules.specs.declared.Call.{Call}
 use Rattle.rules.specs.declared.Call.TheVariants.{Tick}
 use Rattle.rules.specs.Kind.{Kind, alive, pages}
-use Rattle.rules.specs.State.{State, made, Event, recall, cell}
-use Rattle.rules.specs.Power.{ticked}
+use Rattle.rules.specs.State.{State, made, Event, cell}
 use Rattle.rules.specs.Step.{Out, step}
-use Rattle.rules.specs.Machine.{Moment, Obeys, Changed, Changes, driven}
+use Rattle.rules.specs.Machine.{Moment, Changes, driven}
 use Rattle.rules.specs.History.{state_after, after, onto, trail, calls_of, images_after, Run, Throughout}
 use Rattle.rules.specs.Trail.{PromisedByte, PutSinceRecall, CurrentByte}
-use Rattle.promises.specs.Promises.{EndsWaking, CallPromises, NewestCall, Promises, PromisesHold}
+use Rattle.promises.specs.Promises.{EndsWaking, NewestCall, Promises, PromisesHold}
 use Rattle.promises.proofs.Marks.{Mark, fresh, clean, lost, mark, promised, fresh_put_since_recall, clean_not_put_since_recall}
 use Rattle.promises.proofs.Law.{promised_is}
 use Rattle.promises.proofs.Data.{Leads, Long, Agrees, Stands, stands}
 use Rattle.promises.proofs.Puts.{alive_is}
-use Rattle.promises.proofs.Control.{Sound, Live, LiveFor, Woken, woken_more, history_sound}
+use Rattle.promises.proofs.Control.{Live, LiveFor, Woken, woken_more, history_sound}
 use Rattle.promises.proofs.Calls.{step_allowed, step_readable, history_latched}
 use Rattle.promises.proofs.Frames.{step_on, frames_hold}
 

@@ -1,22 +1,21 @@
 -- What every run of a part promises, at every moment.
-use Rattle.std.specs.Prelude.{◌≡◌, ℕ, ◌+◌, ◌*◌, ◌^◌, ◌<◌, ◌≤◌, Bool, true, false, ◌⊎◌, ◌↔◌, List, [], ◌∷◌, ◌++◌, length, Some, None, Ok, Err, Option, Result, slice_index}
+use Rattle.std.specs.Prelude.{◌≡◌, ℕ, ◌^◌, ◌<◌, Bool, true, false, ◌⊎◌, ◌↔◌, List, [], ◌∷◌, ◌++◌, length, Some, Ok, Err, Result, slice_index}
 use Rattle.refusal.specs.declared.Refusal.{Refusal}
 use Rattle.refusal.specs.declared.Refusal.TheVariants.{WrongSum}
 use Rattle.cells.specs.Images.{Images}
 use Rattle.crc.specs.Sum.{bits, message_bits}
 use Rattle.detect.specs.Damage.{Burst}
-use Rattle.dialect.specs.Facts.{Facts, Lawful}
+use Rattle.dialect.specs.Facts.{Lawful}
 use Rattle.dialect.specs.declared.Instruction.TheVariants.{SecureWrite}
 use Rattle.rules.specs.declared.Activity.TheVariants.{Idle, Waking}
 use Rattle.rules.specs.declared.Power.TheVariants.{On}
 use Rattle.rules.specs.declared.Call.{Call}
 use Rattle.rules.specs.declared.Call.TheVariants.{Select, Byte, Release, Tick, Cut, PowerUp}
 use Rattle.rules.specs.Kind.{Kind, alive, protected}
-use Rattle.rules.specs.State.{State, Selection, unselected, selected, Event, put, keep, recall, fade, Drive, cell}
-use Rattle.rules.specs.Step.{Out, step}
-use Rattle.rules.specs.Machine.{Moment, Obeys}
+use Rattle.rules.specs.State.{unselected, Event, put, keep, recall, fade, cell}
+use Rattle.rules.specs.Machine.{Moment}
 use Rattle.rules.specs.History.{state_after, after, trail, calls_of, images_after, Run, Throughout}
-use Rattle.rules.specs.Frame.{frame_length, frame_address, frame_data, frame_sum, is_right, frame_place}
+use Rattle.rules.specs.Frame.{frame_length, frame_address, frame_data, frame_sum, is_right}
 use Rattle.rules.specs.Trail.{PromisedByte, CurrentByte}
 
 -- a put among events

@@ -1,11 +1,11 @@
 -- What a public call promises: it is the rules' step, and whatever led to the part, everything promised holds behind it.
-use Rattle.std.specs.Prelude.{◌≡◌, ℕ, List, [], ◌∷◌, Option, Result}
+use Rattle.std.specs.Prelude.{◌≡◌, ℕ, List, ◌∷◌, Option, Result}
 use Rattle.refusal.specs.declared.Refusal.{Refusal}
 use Rattle.cells.specs.Images.{Images}
 use Rattle.rules.specs.declared.Call.{Call}
 use Rattle.rules.specs.Kind.{Kind}
 use Rattle.rules.specs.State.{State}
-use Rattle.rules.specs.Step.{Out, step}
+use Rattle.rules.specs.Step.{step}
 use Rattle.rules.specs.Machine.{Moment, Obeys}
 use Rattle.rules.specs.History.{state_after, calls_of, images_after, Run, Throughout}
 use Rattle.promises.specs.Promises.{Promises}

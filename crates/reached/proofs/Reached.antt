@@ -4,9 +4,6 @@ use mathlib.Core.Bool.{xor}
 use lib.Count.{ones, ones_in}
 use Rattle.crc.specs.Sum.{step as sum_step, after_message, bits, message_bits}
 use Rattle.rules.specs.State.{Event, put, keep, recall}
-use Rattle.rules.specs.Byte.{heard}
-use Rattle.rules.specs.Release.{ended}
-use Rattle.rules.specs.Power.{ticked, cut_events}
 use Rattle.rules.specs.Step.{step}
 use Rattle.rules.specs.Frame.{frame_data}
 use Rattle.rules.specs.History.{trail}
