@@ -102,6 +102,8 @@ def main():
         return 1
     for path, text in texts.items():
         changed = token.sub(lambda m: new.get(m.group(0), m.group(0)), text)
+        # In a remark the call is a power-up; only a statement names the case of a record so.
+        changed = re.sub(r"(?m)((?:--|//).*\b(?:[aA]|or) )power_up\b", r"\1power-up", changed)
         if changed != text:
             path.write_text(changed)
     print(len(new), "names respelled")

@@ -44,7 +44,7 @@ off_call_refuses s PowerUp up = absurd (up refl)
 pub off_refuses : (k : Kind) (s : State) (c : Call) → alive k ≡ true → s.power ≡ Off → (c ≡ PowerUp → ⊥) → step k s c ≡ refusing s PowerOff
 off_refuses k s c live off up = off_steps k s c live off ∙ off_call_refuses s c up
 
--- a power_up lists nothing and drives nothing
+-- a power-up lists nothing and drives nothing
 abbrev Silent : Out → Type 0
 Silent o = (o.events ≡ []) × (o.drive ≡ undriven)
 

@@ -52,7 +52,7 @@ RecallRecallsEveryPage =
     → CarriedOut k (ticks (pages k) (commanded opcode calls)) (recalls 0 (pages k)) (trail k calls)
     × ((state_after k (ticks (pages k) (commanded opcode calls))).written ≡ false)
 
--- So does a power_up, and latch and both marks are clear.
+-- So does a power-up, and latch and both marks are clear.
 abbrev pub WakingRecallsEveryPage : Type 0
 WakingRecallsEveryPage =
     (k : Kind) (calls : List Call) → alive k ≡ true → (state_after k calls).power ≡ Off

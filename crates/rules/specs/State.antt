@@ -46,7 +46,7 @@ pub record State : Type 0 where
   pub latch : Bool
   -- the fail mark: a secure frame with a wrong sum came, and none was done since
   pub failed : Bool
-  -- the written mark: something was put since the last store, recall or power_up
+  -- the written mark: something was put since the last store, recall or power-up
   pub written : Bool
 
 -- as a part is made

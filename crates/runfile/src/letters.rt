@@ -57,7 +57,7 @@ pub enum Record<'a> {
     Cut { charged: bool },
     // The hold level from now on.
     Hold { held: bool },
-    // A power_up.
+    // A power-up.
     PowerUp,
 }
 

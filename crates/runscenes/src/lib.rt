@@ -60,7 +60,7 @@ mod tests {
         assert_eq!(rt; fault.spot.place, 28);
     }
 
-    // The part is off: the ticks stop at the first, and nothing is driven. Then a wrong record, a power_up and four ticks.
+    // The part is off: the ticks stop at the first, and nothing is driven. Then a wrong record, a power-up and four ticks.
     #[test]
     fn bench_goes_on_past_faults(rt: HostRuntime) -> Result<(), Fail> {
         let mut memory = [0xFF; 512];
