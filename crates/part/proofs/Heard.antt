@@ -1,14 +1,13 @@
 -- Calls of a part that is on, from what was done to its parts.
-use Rattle.std.proofs.Common.{◌≡◌, ℕ, Bool, true, false, ◌||◌, List, [], ◌∷◌, Some, None, Ok, Err, Option, Result, sym, refl, ap, ◌∙◌, subst, ap₂, subst₂}
-use Rattle.refusal.specs.declared.Refusal.{Refusal}
+use Rattle.std.proofs.Common.{◌≡◌, ℕ, Bool, false, ◌||◌, List, [], ◌∷◌, Ok, Option, sym, refl, ap, ◌∙◌, subst, ap₂, subst₂}
 use Rattle.cells.specs.Images.{Images}
 use Rattle.cells.specs.Laws.{Site}
 use Rattle.rules.specs.declared.Activity.{Activity}
 use Rattle.rules.specs.Kind.{Kind}
-use Rattle.rules.specs.State.{State, Selection, unselected, selected, Phase, opcode, turned_away, command, reading_status, writing_status, address, reading, reading_secure, writing_paged, writing_direct, frame, frame_too_long, Event, put, keep, recall, fade}
+use Rattle.rules.specs.State.{Selection, unselected, selected, Phase, opcode, turned_away, command, reading_status, writing_status, address, reading, reading_secure, writing_paged, writing_direct, frame, frame_too_long, Event, put, keep, recall, fade}
 use Rattle.rules.specs.Byte.{Heard, heard}
-use Rattle.rules.specs.Step.{Out, marked, heard_out, on_byte}
-use Rattle.rules.specs.Machine.{Changes, driven}
+use Rattle.rules.specs.Step.{marked, heard_out, on_byte}
+use Rattle.rules.specs.Machine.{driven}
 use Rattle.selection.specs.declared.control.Control.{Control}
 use Rattle.selection.specs.View.{state_of, Done}
 use Rattle.part.specs.View.{Does}

@@ -1,13 +1,13 @@
 -- Keeping pages, and fading behind them.
-use Rattle.std.proofs.Common.{◌≡◌, ℕ, suc, ◌+◌, ◌-◌, ◌*◌, ◌/◌, ◌<◌, Bool, cond, List, [], ◌∷◌, ◌++◌, sym, refl, ap, ◌∙◌, subst, arith}
+use Rattle.std.proofs.Common.{◌≡◌, ℕ, suc, ◌+◌, ◌-◌, ◌*◌, ◌/◌, ◌<◌, Bool, List, [], ◌∷◌, ◌++◌, sym, refl, ap, ◌∙◌, subst, arith}
 use Rattle.cells.specs.Images.{Images, after_keep}
 use Rattle.cells.specs.Laws.{Site, Bytes}
 use Rattle.dialect.specs.Facts.{Facts}
 use Rattle.rules.specs.declared.Activity.{Activity}
 use Rattle.rules.specs.declared.Activity.TheVariants.{Idle, Storing, Recalling, Waking}
-use Rattle.rules.specs.Kind.{Kind, pages}
-use Rattle.rules.specs.State.{Event, keep, fade, Selection}
-use Rattle.rules.specs.Power.{keeps, saved, cut_events}
+use Rattle.rules.specs.Kind.{Kind}
+use Rattle.rules.specs.State.{Event, fade, Selection}
+use Rattle.rules.specs.Power.{keeps, cut_events}
 use Rattle.rules.specs.Machine.{Changes}
 use Rattle.selection.specs.declared.control.Control.{Control}
 use Rattle.selection.specs.View.{kind_of, state_of, Done}

@@ -1,10 +1,10 @@
 -- What a part answers before it looks at a call.
-use Rattle.std.proofs.Common.{◌≡◌, ℕ, ◌≤◌, Bool, true, false, ◌&&◌, eqb, leb, [], Decides, sym, refl, ap, ◌∙◌, subst, arith}
+use Rattle.std.proofs.Common.{◌≡◌, Bool, true, false, leb, [], Decides, refl, ap, ◌∙◌}
 use lib.Count.{ones}
 use Rattle.std.proofs.lemmas.Bool.{cond-true, cond-false, cond_both, and_from, le-leb, eq-eqb}
 use Rattle.std.proofs.lemmas.Bool.Decides.{same_from_decides}
 use Rattle.refusal.specs.declared.Refusal.TheVariants.{Dead, PowerOff}
-use Rattle.dialect.specs.Facts.{Facts, Alive}
+use Rattle.dialect.specs.Facts.{Alive}
 use Rattle.powers.proofs.Powers.{one_bit_of_power}
 use Rattle.rules.specs.declared.Power.{Power}
 use Rattle.rules.specs.declared.Power.TheVariants.{Off, On}

@@ -1,5 +1,5 @@
 -- A call that does what the rules say is served.
-use Rattle.std.proofs.Common.{◌≡◌, ℕ, Bool, [], None, Ok, Err, Option, Result, sym, refl, ap, ◌∙◌, subst, arith}
+use Rattle.std.proofs.Common.{◌≡◌, ℕ, Bool, None, Err, Option, Result, sym, refl, ap, ◌∙◌, subst, arith}
 use Rattle.refusal.specs.declared.Refusal.{Refusal}
 use Rattle.dialect.specs.Facts.{Facts, Lawful}
 use Rattle.cells.specs.Images.{Images}
@@ -10,7 +10,6 @@ use Rattle.selection.specs.declared.control.Control.{Control}
 use Rattle.selection.specs.declared.phase.Selection.{Selection}
 use Rattle.selection.specs.View.{kind_of, state_of, selection_of}
 use Rattle.part.specs.View.{whole_of, Does}
-use Rattle.rules.specs.Kind.{Kind}
 use Rattle.rules.specs.Step.{Out, step, refusing}
 use Rattle.rules.specs.Machine.{Changes, driven}
 use Rattle.promises.specs.Served.{Whole, Served}

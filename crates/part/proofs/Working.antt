@@ -1,14 +1,12 @@
 -- Call by call, a run goes on.
-use Rattle.std.proofs.Common.{◌≡◌, ℕ, ◌+◌, ◌<◌, ◌≤◌, List, [], ◌∷◌, ◌++◌, reverse, length, get_or, take, sym, refl, ap, ◌∙◌, subst}
+use Rattle.std.proofs.Common.{◌≡◌, ℕ, ◌+◌, ◌<◌, ◌≤◌, List, [], ◌∷◌, ◌++◌, reverse, length, get_or, take, sym, refl, ap, ◌∙◌}
 use Rattle.std.proofs.lemmas.List.{take_more, take_all, reverse-append}
-use Rattle.dialect.specs.Facts.{Facts, Lawful}
+use Rattle.dialect.specs.Facts.{Lawful}
 use Rattle.cells.specs.Images.{Images}
 use Rattle.rules.specs.declared.Call.{Call}
-use Rattle.rules.specs.Kind.{Kind}
 use Rattle.rules.specs.Machine.{Moment}
-use Rattle.rules.specs.History.{calls_of, Throughout}
-use Rattle.promises.specs.Promises.{Promises}
-use Rattle.promises.specs.Served.{Whole, Led, Served, moment}
+use Rattle.rules.specs.History.{calls_of}
+use Rattle.promises.specs.Served.{Whole, Led, moment}
 use Rattle.promises.proofs.Whole.{promises_hold}
 use Rattle.part.specs.View.{ServedSomehow, WorkedThrough}
 

@@ -1,5 +1,5 @@
 -- A part of the code, as the rules and the promises have it.
-use Rattle.std.specs.Prelude.{◌≡◌, ℕ, ◌*◌, ◌≤◌, Bool, ◌⊎◌, List, ◌++◌, reverse, Some, None, Ok, Err, Option, Result, ◌≢◌}
+use Rattle.std.specs.Prelude.{◌≡◌, ℕ, ◌≤◌, Bool, ◌⊎◌, List, ◌++◌, reverse, None, Ok, Err, Option, Result, ◌≢◌}
 use Rattle.refusal.specs.declared.Refusal.{Refusal}
 use Rattle.refusal.specs.declared.Refusal.TheVariants.{Dead, PowerOff}
 use Rattle.cells.specs.Images.{Images}

@@ -1,13 +1,10 @@
 -- Records run in turn, one more at a time.
-use Rattle.std.proofs.Common.{◌≡◌, ℕ, ◌+◌, ◌-◌, ◌≤◌, Bool, true, ◌⊎◌, List, [], ◌∷◌, ◌++◌, map, reverse, is_some, is_ok, is_err, Some, None, Ok, Err, Option, Result, sym, refl, ap, ◌∙◌, subst, ap₂, inl, inr, ⊎_elim, append_assoc, append-nil, arith, MatchResult}
+use Rattle.std.proofs.Common.{◌≡◌, ℕ, ◌+◌, ◌-◌, ◌≤◌, Bool, true, List, [], ◌∷◌, ◌++◌, map, reverse, is_some, is_ok, is_err, Some, None, Ok, Err, Option, Result, sym, refl, ap, ◌∙◌, subst, ap₂, inr, ⊎_elim, append_assoc, append-nil, arith, MatchResult}
 use Rattle.std.specs.List.{range_with_len}
 use Rattle.std.proofs.lemmas.Bool.{both_ways}
-use Rattle.dialect.specs.Facts.{Facts, Lawful}
+use Rattle.dialect.specs.Facts.{Lawful}
 use Rattle.cells.specs.Images.{Images}
-use Rattle.rules.specs.Kind.{Kind}
 use Rattle.rules.specs.Machine.{Moment}
-use Rattle.rules.specs.History.{Throughout}
-use Rattle.promises.specs.Promises.{Promises}
 use Rattle.promises.specs.Served.{Whole, Led}
 use Rattle.promises.proofs.Whole.{promises_hold}
 use Rattle.runfile.specs.declared.fault.RecordFault.{RecordFault}
@@ -18,7 +15,7 @@ use Rattle.runfile.specs.Reader.{left_of}
 use Rattle.runfile.specs.declared.letters.Letter.{Letter}
 use Rattle.runfile.specs.Seen.{letter_of}
 use Rattle.benchlines.specs.Lines.{line_text, opening_text}
-use Rattle.replay.specs.Ran.{Ran, RanSaid, RanRecord}
+use Rattle.replay.specs.Ran.{RanSaid, RanRecord}
 use Rattle.replay.specs.Played.{Came, in_file, line_of, lines_of, RanInTurn, RanRecords, PlayedBy, Played, PlayedInPart, RanLocated, RanOrNot}
 
 -- ---- one record more

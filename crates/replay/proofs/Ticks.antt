@@ -1,11 +1,11 @@
 -- Ticks in turn, up to the first that is refused.
-use Rattle.std.proofs.Common.{◌≡◌, ℕ, suc, ◌+◌, ◌-◌, ◌<◌, ◌≤◌, List, [], ◌∷◌, ◌++◌, Ok, Err, Option, Result, sym, refl, ap, ◌∙◌, subst, ap₂, append_assoc, append-nil, arith}
+use Rattle.std.proofs.Common.{◌≡◌, ℕ, suc, ◌+◌, ◌-◌, ◌<◌, ◌≤◌, List, [], ◌∷◌, ◌++◌, Ok, Err, Option, Result, sym, ap, ◌∙◌, subst, ap₂, append_assoc, append-nil, arith}
 use Rattle.refusal.specs.declared.Refusal.{Refusal}
 use Rattle.rules.specs.declared.Call.{Call}
 use Rattle.rules.specs.declared.Call.TheVariants.{Tick}
 use Rattle.rules.specs.Kind.{Kind}
 use Rattle.rules.specs.State.{State}
-use Rattle.rules.specs.Step.{Out, step}
+use Rattle.rules.specs.Step.{step}
 use Rattle.promises.specs.Served.{Whole, Served}
 use Rattle.replay.specs.Ran.{if_done, ticks_until_refused, Made, TickedOn}
 use Rattle.replay.proofs.Turns.{none_yet, one_more}

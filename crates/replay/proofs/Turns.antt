@@ -3,14 +3,11 @@ use Rattle.std.proofs.Common.{◌≡◌, ℕ, ◌+◌, ◌<◌, Bool, List, [], 
 use mathlib.Core.List.{reverse-cons}
 use Rattle.std.proofs.lemmas.List.{map-append, take_more}
 use Rattle.refusal.specs.declared.Refusal.{Refusal}
-use Rattle.dialect.specs.Facts.{Facts, Lawful}
+use Rattle.dialect.specs.Facts.{Lawful}
 use Rattle.cells.specs.Images.{Images}
 use Rattle.rules.specs.declared.Call.{Call}
 use Rattle.rules.specs.declared.Call.TheVariants.{Select, Byte, Release, Tick, Cut, PowerUp}
-use Rattle.rules.specs.Kind.{Kind}
 use Rattle.rules.specs.Machine.{Moment}
-use Rattle.rules.specs.History.{calls_of, Throughout}
-use Rattle.promises.specs.Promises.{Promises}
 use Rattle.promises.specs.Served.{Whole, Led, Served, moment}
 use Rattle.promises.proofs.Whole.{promises_hold}
 use Rattle.runfile.specs.Letters.{Said, transfer, cut, hold, power_up}

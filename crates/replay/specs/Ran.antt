@@ -6,7 +6,7 @@ use Rattle.rules.specs.declared.Call.{Call}
 use Rattle.rules.specs.declared.Call.TheVariants.{Select, Byte, Release, Tick, Cut, PowerUp}
 use Rattle.rules.specs.Kind.{Kind}
 use Rattle.rules.specs.State.{State}
-use Rattle.rules.specs.Step.{Out, step}
+use Rattle.rules.specs.Step.{step}
 use Rattle.rules.specs.Machine.{Moment}
 use Rattle.rules.specs.History.{calls_of, Throughout}
 use Rattle.promises.specs.Promises.{Promises}

@@ -1,15 +1,15 @@
 -- Worked values of the run files, each found by hand: the table, the calls of a record and the printed lines.
-use Rattle.std.specs.Prelude.{◌≡◌, ℕ, true, false, List, [], ◌∷◌, ◌++◌, replicate, Some, None, Ok, Err, codes}
+use Rattle.std.specs.Prelude.{◌≡◌, ℕ, true, false, List, [], ◌∷◌, ◌++◌, Some, None, Ok, Err, codes}
 use Rattle.refusal.specs.declared.Refusal.TheVariants.{PowerOff, WrongLength}
-use Rattle.rules.specs.declared.Call.TheVariants.{Select, Byte, Release, Tick, Cut, PowerUp}
+use Rattle.rules.specs.declared.Call.TheVariants.{Select, Byte, Release, Tick}
 use Rattle.rules.specs.State.{made}
-use Rattle.worked.specs.Acts.{nv_256, call, state, awake}
+use Rattle.worked.specs.Acts.{nv_256, state, awake}
 use Rattle.runfile.specs.declared.fault.OpeningFault.TheVariants.{NoTable, Misplaced, PastEnd}
-use Rattle.runfile.specs.declared.fault.RecordFault.TheVariants.{UnknownLetter, WrongArgument, Refused}
+use Rattle.runfile.specs.declared.fault.RecordFault.TheVariants.{UnknownLetter, Refused}
 use Rattle.runfile.specs.declared.letters.Letter.TheVariants.{T, K, Unknown}
 use Rattle.runfile.specs.Numbers.{opening_fault_at, record_fault_at}
 use Rattle.runfile.specs.Table.{number_at, spot, opening_fault, records_of}
-use Rattle.runfile.specs.Letters.{transfer, ticks, cut, hold, power_up, said}
+use Rattle.runfile.specs.Letters.{transfer, ticks, cut, hold}
 use Rattle.benchlines.specs.Lines.{line_text, opening_text}
 use Rattle.replay.specs.Ran.{calls_for, level_behind}
 

@@ -1,4 +1,4 @@
-use Rattle.std.proofs.Common.{None, Ok, Err, sym, ap, ◌∙◌, subst}
+use Rattle.std.proofs.Common.{Err, sym, ap, ◌∙◌, subst}
 use Rattle.std.proofs.lemmas.Result.{err_from_is_err_and}
 use Rattle.rules.specs.declared.Call.TheVariants.{Byte}
 use Rattle.promises.specs.Served.{Served}

@@ -1,4 +1,4 @@
-use Rattle.std.proofs.Common.{ap, ◌∙◌}
+use Rattle.std.proofs.Common.{ap}
 use Rattle.selection.specs.View.{kind_of, phase_of, selection_of}
 use Rattle.part.proofs.Heard.{byte_does}
 use Rattle.part.proofs.Part.hear.Goals as goal

@@ -1,4 +1,4 @@
-use Rattle.std.proofs.Common.{sym, refl, ap, ◌∙◌, subst}
+use Rattle.std.proofs.Common.{sym, refl, ap, subst}
 use Rattle.rules.specs.declared.Call.TheVariants.{PowerUp}
 use Rattle.rules.specs.Step.{step}
 use Rattle.rules.specs.Machine.{Changes, driven}

@@ -1,4 +1,4 @@
-use Rattle.std.proofs.Common.{◌≡◌, true, false, Decides, sym, refl, ◌∙◌, subst, inl, inr, arith}
+use Rattle.std.proofs.Common.{◌≡◌, true, Decides, sym, refl, ◌∙◌, subst, inl, inr, arith}
 use Rattle.dialect.specs.Facts.{Alive}
 use Rattle.rules.specs.declared.Call.TheVariants.{PowerUp}
 use Rattle.rules.specs.Kind.{alive}

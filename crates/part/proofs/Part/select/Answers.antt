@@ -1,8 +1,8 @@
-use Rattle.std.proofs.Common.{None, Ok, Err, sym, ap, ◌∙◌, subst}
+use Rattle.std.proofs.Common.{None, Err, sym, ap, ◌∙◌, subst}
 use Rattle.std.proofs.lemmas.Result.{err_from_is_err_and}
 use Rattle.rules.specs.declared.Call.TheVariants.{Select}
 use Rattle.promises.specs.Served.{Served}
-use Rattle.part.specs.View.{whole_of, answered, drove}
+use Rattle.part.specs.View.{whole_of, answered}
 use Rattle.part.proofs.Serving.{refused_serves, on_serves, select_is_not_power_up}
 use Rattle.part.proofs.Part.select.Goals as goal
 

@@ -1,5 +1,5 @@
 -- the calls so far were worked
-use Rattle.std.proofs.Common.{◌≡◌, take}
+use Rattle.std.proofs.Common.{take}
 use Rattle.part.specs.View.{whole_of}
 use Rattle.part.proofs.Working.{SoFar}
 use Rattle.part.proofs.Part.work.Given as goal
