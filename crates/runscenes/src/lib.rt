@@ -38,11 +38,11 @@ mod tests {
         };
         let first = records.next().ok_or("no first record")?;
         assert_eq!(rt; first.spot.place, 11);
-        assert!(rt; first.bytes == b"P");
+        assert!(rt; first.bytes == b"P".as_slice());
         let second = records.next().ok_or("no second record")?;
         assert_eq!(rt; second.spot.number, 1);
         assert_eq!(rt; second.spot.place, 13);
-        assert!(rt; second.bytes == b"K\x04");
+        assert!(rt; second.bytes == b"K\x04".as_slice());
         assert!(rt; records.next().is_none());
         Ok(())
     }
