@@ -1,12 +1,11 @@
 #!/usr/bin/env python3
-"""Prints what each crate costs: its lines, its must-fail edits, and the seconds of its proof from nothing.
+"""Prints what each crate costs: its lines and its must-fail edits, and the seconds of its proof where a file tells them.
 
-    rt prove > prove.log 2>&1; bench/cost.py prove.log
+    bench/cost.py [SECONDS]
 
-The seconds are those that rt printed, the tests' proofs among them.
+SECONDS has a line `NAME NUMBER` for each crate that was timed. `rt ci` prints no seconds of single crates: time `rt verdict` in its folder.
 """
 import glob
-import re
 import sys
 
 
@@ -16,10 +15,9 @@ def lines(pattern):
 
 def table(log):
     seconds = {}
-    for line in open(log, errors="replace"):
-        found = re.match(r"rt: (\w+) proved \((\d+) s\)", line) or re.match(r"rt: (\w+): its tests are proved \((\d+) s\)", line)
-        if found:
-            seconds[found[1]] = seconds.get(found[1], 0) + int(found[2])
+    for line in open(log) if log else ():
+        name, number = line.split()
+        seconds[name] = int(number)
     print("| crate | code | specs | proofs | must-fail edits | seconds |\n|---|---|---|---|---|---|")
     total = [0, 0, 0, 0, 0]
     for line in open("crates.txt"):
@@ -34,4 +32,4 @@ def table(log):
 
 
 if __name__ == "__main__":
-    table(sys.argv[1])
+    table(sys.argv[1] if len(sys.argv) > 1 else None)
