@@ -7,7 +7,6 @@ ghost use Rattle.report.specs.Report.{figure, sum_text, word, reason, verdict_te
 
 use capture::Verdict;
 use fields::Unreadable;
-use std::alloc::AllocError;
 use std::fmt;
 
 fn is_line_feed(c: u8) -> bool
@@ -118,7 +117,7 @@ fn reason_of(why: Unreadable) -> &'static str
     }
 }
 
-fn add_verdict(out: &mut String, number: u64, verdict: Verdict) -> Result<(), AllocError>
+fn add_verdict(out: &mut String, number: u64, verdict: Verdict) -> fmt::Result
     ensures { OnOk result (string_bytes out.new ≡ string_bytes out.old ++ verdict_text number verdict) }
 {
     let word = word_of(verdict.right);
@@ -129,22 +128,20 @@ fn add_verdict(out: &mut String, number: u64, verdict: Verdict) -> Result<(), Al
     write!(
         out,
         "{number} {word} page {page} offset {offset} sum sent {sent} worked out {worked_out}\n"
-    )
+    )?;
+    Ok(())
 }
 
-fn add_reason(out: &mut String, number: u64, why: Unreadable) -> Result<(), AllocError>
+fn add_reason(out: &mut String, number: u64, why: Unreadable) -> fmt::Result
     ensures { OnOk result (string_bytes out.new ≡ string_bytes out.old ++ reason_text number why) }
 {
     let words = reason_of(why);
-    write!(out, "{number} unreadable: {words}\n")
+    write!(out, "{number} unreadable: {words}\n")?;
+    Ok(())
 }
 
 // Adds to a text what is printed of a line. Fails where memory does.
-pub fn add_line(
-    out: &mut String,
-    number: u64,
-    examined: Result<Verdict, Unreadable>,
-) -> Result<(), AllocError>
+pub fn add_line(out: &mut String, number: u64, examined: Result<Verdict, Unreadable>) -> fmt::Result
     ensures { OnOk result (string_bytes out.new ≡ string_bytes out.old ++ line_text number examined) }
 {
     match examined {
@@ -154,7 +151,7 @@ pub fn add_line(
 }
 
 // Adds to a text how many lines were right, wrong and unreadable.
-pub fn add_tally(out: &mut String, tally: &Tally) -> Result<(), AllocError>
+pub fn add_tally(out: &mut String, tally: &Tally) -> fmt::Result
     ensures { OnOk result (string_bytes out.new ≡ string_bytes out.old ++ tally_text tally.now) }
 {
     let right = tally.right;
@@ -163,5 +160,6 @@ pub fn add_tally(out: &mut String, tally: &Tally) -> Result<(), AllocError>
     write!(
         out,
         "{right} right, {wrong} wrong, {unreadable} unreadable\n"
-    )
+    )?;
+    Ok(())
 }
