@@ -1,7 +1,8 @@
 -- What was driven, one byte more.
-use Rattle.std.proofs.Common.{◌≡◌, ℕ, ◌+◌, ◌<◌, List, [], ◌∷◌, ◌++◌, length, get_or, take, Option, sym, refl, ap, ◌∙◌, append_assoc, append-nil}
+use Rattle.std.proofs.Common.{◌≡◌, ℕ, ◌+◌, ◌<◌, List, [], ◌∷◌, ◌++◌, length, get_or, take, Vec, vec_items, Some, None, Option, sym, refl, ap, ◌∙◌, append_assoc, append-nil, length-append, arith}
 use Rattle.std.proofs.lemmas.List.{take_more}
 use Rattle.benchlines.specs.Lines.{driven_text, all_driven_text}
+use Rattle.benchlines.specs.Room.{Added}
 
 driven_on : (xs ys : List (Option ℕ)) → all_driven_text (xs ++ ys) ≡ all_driven_text xs ++ all_driven_text ys
 driven_on [] ys = refl
@@ -13,9 +14,14 @@ driven_more driven i d lt is =
     ap all_driven_text (take_more driven i d lt) ∙ driven_on (take i driven) (get_or driven i d ∷ [])
     ∙ ap (λ (l : List ℕ). all_driven_text (take i driven) ++ l) (append-nil (driven_text (get_or driven i d)) ∙ ap driven_text (sym is))
 
--- the text so far, one byte more
-pub text_more : (before so_far now : List ℕ) (driven : List (Option ℕ)) (i : ℕ) (d : Option ℕ) → i < length driven → d ≡ get_or driven i d
-    → so_far ≡ before ++ all_driven_text (take i driven) → now ≡ so_far ++ driven_text d → now ≡ before ++ all_driven_text (take (i + 1) driven)
-text_more before so_far now driven i d lt is was added =
-    added ∙ ap (λ (l : List ℕ). l ++ driven_text d) was ∙ append_assoc before (all_driven_text (take i driven)) (driven_text d)
-    ∙ ap (λ (l : List ℕ). before ++ l) (sym (driven_more driven i d lt is))
+pub driven_long : (d : Option ℕ) → length (driven_text d) ≡ 3
+driven_long None = refl
+driven_long (Some b) = refl
+
+-- one text behind another
+pub added_on : {A : Type 0} {u v w : Vec ℕ A} {a b : List ℕ} → Added u a v → Added v b w → Added u (a ++ b) w
+added_on {u = u} {a = a} {b = b} p q = record {
+  items = q.items ∙ ap (λ (l : List ℕ). l ++ b) p.items ∙ append_assoc (vec_items u) a b;
+  len = omega (arith, length-append a b);
+  capacity = omega arith;
+}

@@ -1,28 +1,23 @@
-// Text added to a buffer that has room for it, so that nothing can fail.
-ghost use Rattle.std.specs.Prelude.{◌≡◌, ◌+◌, ◌≤◌, ◌++◌, length, vec_len, vec_capacity, decimal};
+// Text added to a buffer that has room for it, so that nothing can fail. It goes in piece by piece: `write!` tells nobody when it
+// cannot fail.
+ghost use Rattle.std.specs.Prelude.{length};
+ghost use Rattle.benchlines.specs.Room.{HasRoom, Added};
+
+use itoa::{Buffer, Integer};
 
 pub(super) fn add_bytes(out: &mut Vec<u8>, bytes: &[u8])
-    requires { vec_len out.old + length bytes.now ≤ vec_capacity out.old }
-    ensures items { out.new.items ≡ out.old.items ++ bytes.now }
-    ensures len { vec_len out.new ≡ vec_len out.old + length bytes.now }
-    ensures capacity { vec_capacity out.new ≡ vec_capacity out.old }
+    requires { HasRoom out.old (length bytes.now) }
+    ensures { Added out.old bytes.now out.new }
 {
-    for byte in bytes {
-        out.push_reserved(*byte);
-    }
+    // It fails only where room is missing.
+    let _ = out.extend_from_slice(bytes);
 }
 
 // A number without leading zeros.
-pub(super) fn add_decimal(out: &mut Vec<u8>, number: u64)
-    requires { vec_len out.old + length (decimal number) ≤ vec_capacity out.old }
-    ensures items { out.new.items ≡ out.old.items ++ decimal number }
-    ensures len { vec_len out.new ≡ vec_len out.old + length (decimal number) }
-    ensures capacity { vec_capacity out.new ≡ vec_capacity out.old }
+pub(super) fn add_decimal<I: Integer>(out: &mut Vec<u8>, number: I)
+    requires { HasRoom out.old (length (I.text number)) }
+    ensures { Added out.old (I.text number) out.new }
 {
-    if number < 10 {
-        out.push_reserved(b'0' + number as u8);
-    } else {
-        add_decimal(out, number / 10);
-        out.push_reserved(b'0' + (number % 10) as u8);
-    }
+    let mut buffer = Buffer::new();
+    add_bytes(out, buffer.format(number).as_bytes());
 }

@@ -1,12 +1,14 @@
 //! Plays the run file on standard input, for the bench programs.
 #![tactic(auto)]
 
-ghost use Rattle.std.specs.Prelude.{IfOk};
+ghost use Rattle.std.specs.Prelude.{false, IfOk};
 ghost use Rattle.part.specs.Whole.{whole};
+ghost use Rattle.replay.specs.Ran.{BenchState, state_of};
 ghost use Rattle.replay.specs.Played.{Played as FilePlayed};
 
 use cells::Cells;
 use dialect::Dialect;
+use part::Part;
 use replay::Bench;
 use std::io::{Read, Write};
 
@@ -26,7 +28,7 @@ pub fn play_input<D: Dialect, C: Cells>(
     rt: &HostRuntime,
     bench: &mut Bench<D, C>,
 ) -> anyhow::Result<Session>
-    ensures { IfOk result (λ session. FilePlayed session.file.items bench.old.held (whole D.facts C.lasting C.site C.images bench.old.part) session.text.items bench.new.held (whole D.facts C.lasting C.site C.images bench.new.part)) }
+    ensures { IfOk result (λ session. FilePlayed session.file.items (state_of D.Dialect C.Cells bench.old) session.text.items (state_of D.Dialect C.Cells bench.new)) }
 {
     let heap = rt.alloc();
     let mut file = Vec::new(heap);
@@ -35,4 +37,17 @@ pub fn play_input<D: Dialect, C: Cells>(
     bench.play(file.as_slice(), &mut text)?;
     rt.stdout().write_all(text.as_slice())?;
     Ok(Session { file, text })
+}
+
+// Puts a part on a bench, with no hold, plays the input on it as `play_input` does, and takes it apart.
+pub fn play_input_on<D: Dialect + Drop, C: Cells + Drop>(
+    rt: &HostRuntime,
+    part: Part<D, C>,
+) -> anyhow::Result<Session>
+    ensures { IfOk result (λ session. (after : BenchState) × FilePlayed session.file.items (record { held = false; part = whole D.Dialect C.Cells part }) session.text.items after) }
+{
+    let mut bench = Bench::new(part, rt.alloc());
+    let session = play_input(rt, &mut bench);
+    let _ = bench.into_part().into_cells();
+    session
 }

@@ -7,6 +7,7 @@ use Rattle.fields.specs.declared.Unreadable.{Unreadable}
 use Rattle.fields.specs.declared.Unreadable.TheVariants as unreadable
 use Rattle.fields.specs.Fields.{Read, ◌then◌, something_on, nothing_behind, read_number, read_bytes, read_highest_first}
 use Rattle.capture.specs.declared.Frame.{Frame}
+use Rattle.capture.specs.declared.Header.{Header}
 use Rattle.capture.specs.declared.Verdict.{Verdict}
 
 -- 2 or 3
@@ -21,25 +22,25 @@ abbrev pub size_of : AddressBytes → ℕ → Result ℕ Unreadable
 size_of k n = cond (is_size (count_of k) n) (Ok n) (Err unreadable.Size)
 
 -- the array's size and the number of address bytes
-unfoldable pub read_header : List ℕ → Read (ℕ × AddressBytes)
+unfoldable pub read_header : List ℕ → Read Header
 read_header line =
     something_on line then λ _.
     read_number unreadable.Size line then λ (n, text).
     read_number unreadable.AddressBytes text then λ (count, text).
     address_bytes_of count then λ k.
     size_of k n then λ size.
-    Ok ((size, k), text)
+    Ok (record { size = size; address_bytes = k }, text)
 
 -- A line: the array's size and the number k of address bytes, and then the frame: k bytes of address, highest first, 64
 -- bytes of data as sent, and the sum, high byte first.
 unfoldable pub reading : List ℕ → Result Frame Unreadable
 reading line =
-    read_header line then λ ((size, k), text).
-    read_highest_first (count_of k) 0 text then λ (address, text).
+    read_header line then λ (header, text).
+    read_highest_first (count_of header.address_bytes) 0 text then λ (address, text).
     read_bytes 64 text then λ (page, text).
     read_highest_first 2 0 text then λ (sum, text).
     nothing_behind text then λ _.
-    Ok (record { size = size; address_bytes = k; address = address; sent = page; sum = sum })
+    Ok (record { size = header.size; address_bytes = header.address_bytes; address = address; sent = page; sum = sum })
 
 -- the address as it chooses among the array's bytes
 abbrev pub place : Frame → ℕ

@@ -12,13 +12,13 @@
 ghost use Rattle.std.specs.Prelude.{◌≡◌, ℕ, ◌%◌, ◌^◌};
 ghost use Rattle.crc.specs.Transfer.{count_of};
 ghost use Rattle.fields.specs.Fields.{seen, capped};
-ghost use Rattle.capture.specs.Frame.{address_bytes_of, size_of, read_header, reading, verdict, examined};
+ghost use Rattle.capture.specs.Frame.{size_of, read_header, reading, verdict, examined};
 
 use crc::AddressBytes;
 use fields::Unreadable;
 
 // A secure frame, with what must be known of the array to check it.
-#[derive(Clone, Copy)]
+#[derive(Clone, Copy, PartialEq, Eq, Debug)]
 pub struct Frame {
     // How many bytes the array has.
     pub size: u32,
@@ -33,7 +33,7 @@ pub struct Frame {
 }
 
 // What is to be said of a frame.
-#[derive(Clone, Copy)]
+#[derive(Clone, Copy, PartialEq, Eq, Debug)]
 pub struct Verdict {
     // Whether the sum sent is the sum worked out.
     pub right: bool,
@@ -42,16 +42,6 @@ pub struct Verdict {
     pub offset: u32,
     pub sum_sent: u16,
     pub sum_worked_out: u16,
-}
-
-fn choose_address_bytes(count: u32) -> Result<AddressBytes, Unreadable>
-    ensures { (n : ℕ) → count ≡ capped n → result ≡ address_bytes_of n }
-{
-    match count {
-        2 => Ok(AddressBytes::Two),
-        3 => Ok(AddressBytes::Three),
-        _ => Err(Unreadable::AddressBytes),
-    }
 }
 
 // As many bytes as an address can choose among.
@@ -67,56 +57,64 @@ fn reach(address_bytes: AddressBytes) -> u32
 fn choose_size(address_bytes: AddressBytes, number: u32) -> Result<u32, Unreadable>
     ensures { (n : ℕ) → number ≡ capped n → result ≡ size_of address_bytes n }
 {
-    if number >= 256 && number <= reach(address_bytes) && number.is_power_of_two() {
+    if (256..=reach(address_bytes)).contains(&number) && number.is_power_of_two() {
         Ok(number)
     } else {
         Err(Unreadable::Size)
     }
 }
 
-fn read_header(line: &[u8]) -> Result<((u32, AddressBytes), &[u8]), Unreadable>
+// What must be known of the array to read a frame and check it.
+#[derive(Clone, Copy)]
+struct Header {
+    size: u32,
+    address_bytes: AddressBytes,
+}
+
+#[tactic(auto, unfolding(crate::specs::Frame::read_header))]
+fn read_header(line: &[u8]) -> Result<(Header, &[u8]), Unreadable>
     ensures { seen result ≡ read_header line.now }
 {
     fields::expect_something(line)?;
     let (number, text) = fields::read_number(line, Unreadable::Size)?;
     let (count, text) = fields::read_number(text, Unreadable::AddressBytes)?;
-    let address_bytes = choose_address_bytes(count)?;
+    let address_bytes = AddressBytes::try_from(count).map_err(|_| Unreadable::AddressBytes)?;
     let size = choose_size(address_bytes, number)?;
-    Ok(((size, address_bytes), text))
+    let header = Header {
+        size,
+        address_bytes,
+    };
+    Ok((header, text))
 }
 
 // Reads the frame on a line. Refuses a line that is not written as specs/Frame.antt says, with the first reason in reading
 // order. Changes nothing.
+#[tactic(auto, unfolding(crate::specs::Frame::reading))]
 pub fn read_frame(line: &[u8]) -> Result<Frame, Unreadable>
     ensures { result ≡ reading line.now }
 {
-    let ((size, address_bytes), text) = read_header(line)?;
-    let (address, text) = fields::read_address(text, address_bytes)?;
+    let (header, text) = read_header(line)?;
+    let (address, text) = fields::read_address(text, header.address_bytes)?;
     let (sent, text) = fields::read_page(text)?;
     let (sum, text) = fields::read_sum(text)?;
     fields::expect_nothing(text)?;
     Ok(Frame {
-        size,
-        address_bytes,
+        size: header.size,
+        address_bytes: header.address_bytes,
         address,
         sent,
         sum,
     })
 }
 
-// The address modulo the array's size; an array of size 0 leaves it as it is.
-fn reduce(address: u32, size: u32) -> u32
-    ensures { result ≡ address % size }
-{
-    if size == 0 { address } else { address % size }
-}
-
-// Says whether a frame is right, and what its address chooses. Refuses nothing and changes nothing.
+// Says whether a frame is right, and what its address chooses; an array of size 0 leaves the address as it is. Refuses
+// nothing and changes nothing.
 pub fn judge(frame: &Frame) -> Verdict
     ensures { result ≡ verdict frame.now }
 {
-    let place = reduce(frame.address, frame.size);
-    let sum = crc::page_sum(frame.address_bytes, frame.size, frame.address, &frame.sent);
+    let Frame { size, address, .. } = *frame;
+    let place = address.checked_rem(size).unwrap_or(address);
+    let sum = crc::page_sum(frame.address_bytes, size, address, &frame.sent);
     Verdict {
         right: sum == frame.sum,
         page: place / 64,

@@ -1,3 +1,3 @@
-pub mod Front
+pub mod Bytes
 pub mod Pages
 pub mod Powers

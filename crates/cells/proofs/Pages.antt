@@ -1,5 +1,6 @@
 -- What a page set in an image leaves, at each address, and what keep and recall leave by that.
-use Rattle.std.proofs.Common.{◌≡◌, ℕ, ◌+◌, ◌-◌, ◌*◌, ◌/◌, ◌<◌, ◌≤◌, Bool, true, false, cond, ltb, List, ◌++◌, length, get_or, take, drop, is_ok, Ok, Err, Result, refl, ap, ◌∙◌, inl, inr, arith}
+use Rattle.std.proofs.Common.{◌≡◌, ℕ, ◌+◌, ◌-◌, ◌*◌, ◌/◌, ◌<◌, ◌≤◌, Bool, true, false, cond, ltb, List, ◌++◌, length, get_or, take, drop, is_ok, Ok, Err, Result, sym, refl, ap, ◌∙◌, inl, inr, ap₂, rules, arith}
+use borrow.Rule.Slice.PartMut.{put_mid}
 use Rattle.std.proofs.lemmas.List.{length-take, length-drop, length-append, take-append-drop, drop_at, take_at, get_or_append_left, get_or-append_right, get_or-take, get_or-drop}
 use Rattle.std.proofs.lemmas.Bool.{ltb-true, cond-true, cond_both, cases_lt}
 use Rattle.refusal.specs.Numbers.{numbered}
@@ -57,6 +58,13 @@ module _ (n p : ℕ) (other image : List ℕ) (lt : p < n) (lo : length other �
       ap (take 64) (drop_at (take (64 * p) image) _ (64 * p) (simp length-take (omega arith)))
       ∙ take_at (page_of p other) _ 64 (simp (length-take, length-drop) (omega arith))
 
+-- the 64 bytes of a page, written over those of an image
+pub page_written : (p : ℕ) (other image new : List ℕ) → new ≡ take (64 * p + 64 - 64 * p) (drop (64 * p) other) → put_mid (64 * p) (64 * p + 64 - 64 * p) image new ≡ with_page p other image
+unfolding with_page
+page_written p other image new e =
+    let long : 64 * p + 64 - 64 * p ≡ 64 = omega arith in
+    ap₂ (λ n part. put_mid (64 * p) n image part) long (e ∙ ap (λ n. take n (drop (64 * p) other)) long) ∙ search rules
+
 ok_when : (b : Bool) → is_ok {T = Unit {0}} {E = ℕ} (cond b (Ok tt) (Err 42)) ≡ b
 ok_when true = refl
 ok_when false = refl
@@ -65,6 +73,10 @@ ok_when false = refl
 pub done_is : (n p : ℕ) (r : Result (Unit {0}) Refusal) → numbered r ≡ page_answer n p → is_ok r ≡ ltb p n
 done_is n p (Ok x) e = ap is_ok e ∙ ok_when (ltb p n)
 done_is n p (Err x) e = ap is_ok e ∙ ok_when (ltb p n)
+
+-- a page that was found is one of the pages
+pub page_found : (n p : ℕ) (r : Result (Unit {0}) Refusal) → numbered r ≡ page_answer n p → is_ok r ≡ true → p < n
+page_found n p r e ok = ltb-true p n (sym (done_is n p r e) ∙ ok)
 
 -- what a keep leaves in the working image, and a recall in the kept one
 pub keep_working : (n p : ℕ) (i : Images) → (after_keep n p i).working ≡ i.working

@@ -10,11 +10,12 @@ pub const LARGEST: usize = 131_072;
 fn is_size(bytes: usize) -> bool
     ensures { result ≡ is_size bytes }
 {
-    bytes >= SMALLEST && bytes <= LARGEST && bytes.is_power_of_two()
+    (SMALLEST..=LARGEST).contains(&bytes) && bytes.is_power_of_two()
 }
 
 // The size of an array that has room for so many bytes in each image: all of them if they are a power of two from
-// `SMALLEST` to `LARGEST`, else 0.
+// `SMALLEST` to `LARGEST`, else 0. That is a number and no `Option`, since an array of size 0 is an array like any other: it
+// has no address and no page, and refuses each.
 pub fn size_for(room: usize) -> usize
     ensures size { result ≡ 64 * pages_for room }
     ensures sized { Sized room result }

@@ -7,7 +7,7 @@
 // lasting cells lose nothing.
 #![tactic(auto)]
 
-ghost use Rattle.std.specs.Prelude.{◌≡◌, true, false, length};
+ghost use Rattle.std.specs.Prelude.{◌≡◌, ◌^◌, ◌<◌, true, false, length};
 ghost use Rattle.refusal.specs.Numbers.{numbered};
 ghost use Rattle.cells.specs.Sizes.{pages_for};
 ghost use Rattle.lasting.specs.Whole.{whole};
@@ -38,6 +38,9 @@ impl fmt::Display for Step {
         }
     }
 }
+
+// The bytes of each image.
+const SIZE: usize = 256;
 
 const WALK: [Step; 9] = [
     Step::Put(16, 0x5A),
@@ -75,7 +78,7 @@ fn step_shadowed(memory: &mut [u8], step: Step) -> Result<(), Refusal>
     take(&mut Shadowed::over(memory), step)
 }
 
-// The same over lasting cells.
+// The same over lasting cells. What the memory holds is told in each array's own words, so that the two stay two.
 fn step_lasting(memory: &mut [u8], step: Step) -> Result<(), Refusal>
     ensures { Leaves true (pages_for (length memory.old)) step (whole memory.old) (whole memory.new) }
 {
@@ -86,15 +89,8 @@ fn step_lasting(memory: &mut [u8], step: Step) -> Result<(), Refusal>
 fn print_step(rt: &impl Print, step: Step, answer: Result<(), Refusal>) -> io::Result<()> {
     match answer {
         Ok(()) => println!(rt; "{step}: done"),
-        Err(refusal) => {
-            let number = refusal.number();
-            println!(rt; "{step}: refused with {number}")
-        }
+        Err(refusal) => println!(rt; "{step}: {refusal}"),
     }
-}
-
-fn print_change(rt: &impl Print, image: &str, at: usize, old: u8, new: u8) -> io::Result<()> {
-    println!(rt; "    {image} {at}: {old:02X} -> {new:02X}")
 }
 
 // Prints each byte of an image that has changed, or that none has.
@@ -102,39 +98,39 @@ fn print_changes(rt: &impl Print, image: &str, before: &[u8], after: &[u8]) -> i
     if before == after {
         return println!(rt; "    {image}: no change");
     }
-    for (at, (old, new)) in before.iter().zip(after.iter()).enumerate() {
+    for (at, (old, new)) in before.iter().zip(after).enumerate() {
         if old != new {
-            print_change(rt, image, at, *old, *new)?;
+            println!(rt; "    {image} {at}: {old:02X} -> {new:02X}")?;
         }
     }
     Ok(())
 }
 
-fn show_shadowed(rt: &impl Print, memory: &mut [u8; 512], step: Step) -> io::Result<()> {
-    let before = *memory;
-    let answer = step_shadowed(memory, step);
-    print_step(rt, step, answer)?;
-    print_changes(rt, "working", &before[0..256], &memory[0..256])?;
-    print_changes(rt, "kept", &before[256..512], &memory[256..512])
-}
-
-fn show_lasting(rt: &impl Print, memory: &mut [u8; 256], step: Step) -> io::Result<()> {
-    let before = *memory;
-    let answer = step_lasting(memory, step);
-    print_step(rt, step, answer)?;
-    print_changes(rt, "working and kept", &before, &*memory)
+// Takes each step of the walk over lent memory, in which images of `SIZE` bytes lie under these names one behind the other.
+fn walk<const N: usize, F: Fn(&mut [u8], Step) -> Result<(), Refusal>>(
+    rt: &impl Print,
+    images: &[&str],
+    take_step: F,
+) -> io::Result<()>
+    requires any_step { F.IsAlwaysCallable take_step }
+    requires room { N < 2 ^ 63 }
+{
+    let mut memory = [0xFF; N];
+    for step in WALK {
+        let before = memory;
+        let answer = take_step(&mut memory, step);
+        print_step(rt, step, answer)?;
+        let both = before.chunks(SIZE).zip(memory.chunks(SIZE));
+        for (image, (before, after)) in images.iter().zip(both) {
+            print_changes(rt, image, before, after)?;
+        }
+    }
+    Ok(())
 }
 
 fn main(rt: HostRuntime) -> io::Result<()> {
-    println!(rt; "Shadowed cells of 256 bytes, all FF:")?;
-    let mut memory = [0xFF; 512];
-    for step in WALK {
-        show_shadowed(&rt, &mut memory, step)?;
-    }
-    println!(rt; "Lasting cells of 256 bytes, all FF:")?;
-    let mut memory = [0xFF; 256];
-    for step in WALK {
-        show_lasting(&rt, &mut memory, step)?;
-    }
-    Ok(())
+    println!(rt; "Shadowed cells of {SIZE} bytes, all FF:")?;
+    walk::<512, _>(&rt, &["working", "kept"], step_shadowed)?;
+    println!(rt; "Lasting cells of {SIZE} bytes, all FF:")?;
+    walk::<256, _>(&rt, &["working and kept"], step_lasting)
 }

@@ -1,12 +1,13 @@
 -- Half a byte at a time: four bits of the message move the register up by four and take off an entry of the table, chosen
 -- by the register's top four bits and the message's.
-use Rattle.std.proofs.Common.{◌≡◌, ℕ, zero, suc, ◌*◌, ◌/◌, ◌%◌, ◌^◌, ◌<◌, Bool, true, false, cond, ◌&&◌, eqb, ◌++◌, sym, refl, ap, ◌∙◌, ap₂, mod-eq_of_lt, div-add-mod', arith}
+use Rattle.std.proofs.Common.{◌≡◌, ℕ, zero, suc, ◌*◌, ◌/◌, ◌%◌, ◌^◌, ◌<◌, Bool, true, false, cond, ◌&&◌, eqb, ◌++◌, get_or, zero-add, sym, refl, ap, ◌∙◌, ap₂, mod-eq_of_lt, div-add-mod', arith}
 use mathlib.Core.Bool.{xor}
 use lib.Bits.{bit_xor, xor_shifted, xor_comm}
 use Rattle.std.proofs.lemmas.Bool.{lt-leb, eqb-true}
-use Rattle.std.proofs.lemmas.Bool.Decides.{Decides-below_and}
 use Rattle.crc.specs.Sum.{step, shifted, after_bits, bits}
-use Rattle.crc.specs.Table.{multiple}
+use Rattle.std.proofs.lemmas.List.FromFn.{get_or-map-range_with_len}
+use Rattle.crc.specs.Table.{multiple, multiples}
+use Rattle.crc.proofs.Below.{all_below, from_all}
 use Rattle.crc.proofs.Runs.{change, difference_evolves_by_change, after_append}
 
 -- ---- the part of the register below its top four bits only moves up
@@ -25,10 +26,6 @@ low_moves r h =
 
 -- ---- the top four bits and the message's four: one test over all of them
 
-all_below : (ℕ → Bool) → ℕ → Bool
-all_below p zero = true
-all_below p (suc n) = p n && all_below p n
-
 met : ℕ → ℕ → Bool
 met h n = eqb (after_bits (h * 0x1000) (bits 4 n)) (multiple (bit_xor h n))
 
@@ -36,10 +33,9 @@ all_met : all_below (λ h. all_below (met h) 16) 16 ≡ true
 unfolding all_below met step xor
 all_met = refl
 
--- what one test over all numbers below a bound tells of each
-from_all : (p : ℕ → Bool) (n : ℕ) → all_below p n ≡ true → (k : ℕ) → k < n → p k ≡ true
-unfolding all_below
-from_all p n all = (Decides-below_and p (λ k. p k ≡ true) (all_below p) (λ k. ((λ e. e), (λ e. e))) refl (λ _. refl) n).0 all
+-- an entry of the code's table
+pub table_entry : (i : ℕ) → i < 16 → get_or multiples i 0 ≡ multiple i
+table_entry i h = get_or-map-range_with_len multiple 0 16 i i 0 h (zero-add i)
 
 high_meets : (h n : ℕ) → h < 16 → n < 16 → after_bits (h * 0x1000) (bits 4 n) ≡ multiple (bit_xor h n)
 unfolding met

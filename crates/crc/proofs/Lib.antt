@@ -1,3 +1,4 @@
+pub mod Below
 pub mod Step
 pub mod Runs
 pub mod Half

@@ -1,5 +1,6 @@
 -- Many steps: the register after a list of bits, and how two runs over lists of one length differ.
 use Rattle.std.proofs.Common.{◌≡◌, ℕ, ◌<◌, Bool, List, [], ◌∷◌, ◌++◌, length, sym, refl, ap, ◌∙◌, arith}
+use Rattle.std.specs.List.{fold}
 use mathlib.Core.Bool.{xor}
 use native.Mathlib.Nat.{suc_inj}
 use lib.Bits.{bit_xor, xor_self}
@@ -30,6 +31,11 @@ after_message_none r = refl
 pub after_message_cons : (r x : ℕ) (m : List ℕ) → after_message r (x ∷ m) ≡ after_message (after_bits r (bits 8 x)) m
 unfolding after_message
 after_message_cons r x m = after_append r (bits 8 x) (message_bits m)
+
+-- the register goes through a message byte by byte
+pub after_message_is_fold : (r : ℕ) (m : List ℕ) → fold (λ now x. after_bits now (bits 8 x)) r m ≡ after_message r m
+after_message_is_fold r [] = sym (after_message_none r)
+after_message_is_fold r (x ∷ m) = after_message_is_fold (after_bits r (bits 8 x)) m ∙ sym (after_message_cons r x m)
 
 pub after_message_lt : (r : ℕ) (m : List ℕ) → r < 0x10000 → after_message r m < 0x10000
 unfolding after_message

@@ -1,7 +1,8 @@
 -- What the sum covers in a page transfer, and how the sum itself is sent.
-use Rattle.std.specs.Prelude.{ℕ, zero, suc, ◌/◌, ◌%◌, ◌^◌, List, [], ◌∷◌, ◌++◌}
+use Rattle.std.specs.Prelude.{◌≡◌, ◌≢◌, ℕ, zero, suc, ◌/◌, ◌%◌, ◌^◌, List, [], ◌∷◌, ◌++◌, Result, MatchResult}
 use Rattle.crc.specs.declared.AddressBytes.{AddressBytes}
 use Rattle.crc.specs.declared.AddressBytes.TheVariants.{Two, Three}
+use Rattle.crc.specs.declared.NotTwoOrThree.{NotTwoOrThree}
 use Rattle.crc.specs.Sum.{sum_of}
 
 -- a number as k bytes, highest first
@@ -21,3 +22,7 @@ pair sum = highest_first 2 sum
 abbrev pub count_of : AddressBytes → ℕ
 count_of Two = 2
 count_of Three = 3
+
+-- the answer has so many bytes, or the number is neither 2 nor 3
+abbrev pub Counts : ℕ → Result AddressBytes NotTwoOrThree → Type 0
+Counts count r = MatchResult r (λ k. count_of k ≡ count) (λ e. (e.0 ≡ count) × (count ≢ 2) × (count ≢ 3))

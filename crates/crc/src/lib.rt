@@ -8,10 +8,9 @@
 // answer the same, for every message and from every register.
 #![tactic(auto)]
 
-ghost use Rattle.std.specs.Prelude.{◌≡◌, ◌/◌, ◌%◌, ◌<◌, slice_index};
+ghost use Rattle.std.specs.Prelude.{◌≡◌, ◌<◌};
 ghost use Rattle.crc.specs.Sum.{after_bits, bits, after_message, start, sum_of};
-ghost use Rattle.crc.specs.Table.{multiples};
-ghost use Rattle.crc.specs.Transfer.{highest_first, page_sum, count_of};
+ghost use Rattle.crc.specs.Transfer.{highest_first, page_sum, count_of, Counts};
 
 // The register before the first byte.
 pub const START: u16 = 0xFFFF;
@@ -22,35 +21,19 @@ const TABLE: [u16; 16] = [
     0xC18C, 0xD1AD, 0xE1CE, 0xF1EF,
 ];
 
-// An entry of the table.
-fn entry(i: u16) -> u16
-    requires { i < 16 }
-    ensures { result ≡ slice_index multiples i }
-{
-    TABLE[usize::from(i)]
-}
-
 // The register after four bits more.
 fn after_half_byte(register: u16, half: u16) -> u16
     requires { half < 16 }
     ensures { result ≡ after_bits register (bits 4 half) }
 {
-    (register << 4) ^ entry((register >> 12) ^ half)
-}
-
-// The high and the low half of a byte.
-fn halves(byte: u8) -> (u16, u16)
-    ensures high { result.0 ≡ byte / 16 }
-    ensures low { result.1 ≡ byte % 16 }
-{
-    (u16::from(byte / 16), u16::from(byte % 16))
+    (register << 4) ^ TABLE[usize::from((register >> 12) ^ half)]
 }
 
 // The register after a byte more, its high half first.
 fn after_byte(register: u16, byte: u8) -> u16
     ensures { result ≡ after_bits register (bits 8 byte) }
 {
-    let (high, low) = halves(byte);
+    let (high, low) = (u16::from(byte / 16), u16::from(byte % 16));
     after_half_byte(after_half_byte(register, high), low)
 }
 
@@ -58,11 +41,9 @@ fn after_byte(register: u16, byte: u8) -> u16
 pub fn update(register: u16, message: &[u8]) -> u16
     ensures { result ≡ after_message register message.now }
 {
-    let mut now = register;
-    for byte in message {
-        now = after_byte(now, *byte);
-    }
-    now
+    message
+        .iter()
+        .fold(register, |now, byte| after_byte(now, *byte))
 }
 
 // The sum of a message.
@@ -75,26 +56,34 @@ pub fn sum(message: &[u8]) -> u16
 // How many bytes an address has on the bus.
 #[derive(Clone, Copy, PartialEq, Eq, Debug)]
 pub enum AddressBytes {
-    Two,
-    Three,
+    Two = 2,
+    Three = 3,
 }
 
 impl AddressBytes {
     pub fn count(self) -> usize
         ensures { result ≡ count_of self }
     {
-        match self {
-            AddressBytes::Two => 2,
-            AddressBytes::Three => 3,
-        }
+        self as usize
     }
 }
 
-// The address modulo the array's size; an array of size 0 leaves it as it is.
-fn place(size: u32, address: u32) -> u32
-    ensures { result ≡ address % size }
-{
-    if size == 0 { address } else { address % size }
+// A number of bytes that no address has.
+#[derive(Clone, Copy, PartialEq, Eq, Debug)]
+pub struct NotTwoOrThree(pub u32);
+
+impl TryFrom<u32> for AddressBytes {
+    type Error = NotTwoOrThree;
+
+    ghost try_from_gives = { Counts };
+
+    fn try_from(count: u32) -> Result<Self, NotTwoOrThree> {
+        match count {
+            2 => Ok(AddressBytes::Two),
+            3 => Ok(AddressBytes::Three),
+            _ => Err(NotTwoOrThree(count)),
+        }
+    }
 }
 
 // The register after an address, highest byte first.
@@ -106,9 +95,10 @@ fn after_address(address_bytes: AddressBytes, address: u32) -> u16
 }
 
 // The sum of a page transfer: it covers the address modulo the array's size, highest byte first, and then the data bytes
-// as sent.
+// as sent. An array of size 0 leaves the address as it is.
 pub fn page_sum(address_bytes: AddressBytes, size: u32, address: u32, sent: &[u8]) -> u16
     ensures { result ≡ page_sum (count_of address_bytes) size address sent.now }
 {
-    update(after_address(address_bytes, place(size, address)), sent)
+    let place = address.checked_rem(size).unwrap_or(address);
+    update(after_address(address_bytes, place), sent)
 }

@@ -1,6 +1,8 @@
 -- Dialect mr: the 1 Mbit MRAM, which is written byte by byte and has neither secure transfers nor store and recall.
 use Rattle.std.specs.Prelude.{ℕ, ◌-◌, ◌/◌, ◌%◌, ◌^◌, true, false, cond, List, [], ◌∷◌, ◌==◌}
-use Rattle.dialect.specs.Facts.{Facts, bit, lookup}
+use Rattle.std.proofs.Common.{refl, inr, rules, arith}
+use Rattle.std.proofs.lemmas.Bool.Decides.{nat_tests}
+use Rattle.dialect.specs.Facts.{Facts, Lawful, bit, lookup}
 use Rattle.dialect.specs.declared.Instruction.{Instruction}
 use Rattle.dialect.specs.declared.Instruction.TheVariants.{Enable, Disable, ReadStatus, WriteStatus, Read, Write, Nothing}
 
@@ -33,4 +35,21 @@ mr = record {
   direct = true;
   runs_on = λ R. false;
   power_store = λ R. true;
+}
+
+-- The law's proof is asked for with the dialect's meaning, so it stands here.
+pub mr_is_lawful : Lawful mr
+mr_is_lawful = record {
+  address_has_2_or_3_bytes = search rules;
+  largest_is_within_the_limit = search rules;
+  largest_is_within_the_address = search rules;
+  mask_is_a_byte = search rules;
+  mask_lacks_bits_1_and_0 = refl;
+  fail_bit_is_one_bit_above_2_or_0 = inr refl;
+  fail_bit_is_outside_the_mask = refl;
+  direct_has_no_fail_bit = λ direct. refl;
+  no_secure_write_without_fail_bit = λ none opcode named. grind (arith, nat_tests);
+  range_is_ordered = λ R N within alive. grind (arith, nat_tests);
+  range_lies_in_the_array = λ R N within alive. grind (arith, nat_tests);
+  paged_range_is_whole_pages = search rules;
 }

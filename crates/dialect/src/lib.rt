@@ -7,7 +7,7 @@
 // `specs/Facts.antt` has the facts and their laws, `specs/Nv.antt` and `specs/Mr.antt` the two delivered dialects.
 #![tactic(auto)]
 
-ghost use Rattle.std.specs.Prelude.{◌≡◌, ◌<◌, Decides};
+ghost use Rattle.std.specs.Prelude.{◌≡◌, ℕ, ◌/◌, ◌%◌, ◌^◌, ◌<◌, Decides};
 ghost use Rattle.dialect.specs.Facts.{Facts, Lawful, Alive, bit};
 
 mod mram;
@@ -35,24 +35,33 @@ pub enum Instruction {
 // A dialect answers its facts, for every input, and changes nothing. Its status bits, R, are those that a status write set;
 // a size is that of a cell array, in bytes.
 //
-// A contract cannot name an associated constant. So each of the two is answered by a function too, and its contract is what
-// generic code learns.
+// Each constant stands for contracts too, as a ghost member of its name, and the check proves the two equal.
 pub trait Dialect {
     ghost facts: { Facts };
 
     // How many bytes an address is sent in.
     const ADDRESS_BYTES: usize;
 
+    ghost ADDRESS_BYTES: { ℕ };
+
     // The largest size at which a part is alive.
     const LARGEST: usize;
 
+    ghost LARGEST: { ℕ };
+
     // Answers ADDRESS_BYTES.
     fn address_length() -> usize
-        ensures { result ≡ facts.address_bytes };
+        ensures { result ≡ facts.address_bytes }
+    {
+        Self::ADDRESS_BYTES
+    }
 
     // Answers LARGEST.
     fn largest_size() -> usize
-        ensures { result ≡ facts.largest };
+        ensures { result ≡ facts.largest }
+    {
+        Self::LARGEST
+    }
 
     // The instruction that an opcode names, or none.
     fn decode(opcode: u8) -> Option<Instruction>
@@ -86,17 +95,30 @@ pub trait Dialect {
     fn is_alive(size: usize) -> bool
         ensures { Decides result (Alive facts size) }
     {
-        let largest = Self::largest_size();
-        256 <= size && size <= largest && powers::is_power_of_two(size)
+        (256..=Self::LARGEST).contains(&size) && powers::is_power_of_two(size)
     }
+
+    // The constants are facts of the dialect.
+    ghost address_bytes_is: { ADDRESS_BYTES ≡ facts.address_bytes };
+
+    ghost largest_is: { LARGEST ≡ facts.largest };
 
     ghost lawful: { Lawful facts };
 }
 
-// Whether the bit at a place, counted from 0, the lowest, is set.
+// The number that some bits of a byte make: so many of them, from a place on, which is counted from 0, the lowest.
+fn bits(byte: u8, place: u8, count: u8) -> u8
+    requires place { place < 8 }
+    requires count { count < 8 }
+    ensures { result ≡ byte / 2 ^ place % 2 ^ count }
+{
+    byte >> place & ((1 << count) - 1)
+}
+
+// Whether the bit at a place is set.
 fn is_set(byte: u8, place: u8) -> bool
     requires { place < 8 }
     ensures { result ≡ bit place byte }
 {
-    byte >> place & 1 == 1
+    bits(byte, place, 1) == 1
 }

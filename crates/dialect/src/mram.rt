@@ -1,10 +1,8 @@
 // Dialect mr, of the 1 Mbit MRAM.
-ghost use Rattle.std.specs.Prelude.{◌≡◌, refl};
-ghost use Rattle.dialect.specs.Mr.{mr, level};
-ghost use Rattle.std.proofs.Common.{inr, rules, arith};
-ghost use Rattle.std.proofs.lemmas.Bool.Decides.{nat_tests};
+ghost use Rattle.std.specs.Prelude.{refl};
+ghost use Rattle.dialect.specs.Mr.{mr, mr_is_lawful};
 
-use super::{Dialect, Instruction, is_set};
+use super::{Dialect, Instruction, bits, is_set};
 
 #[derive(Clone, Copy)]
 pub struct Mr;
@@ -14,30 +12,17 @@ impl Dialect for Mr {
 
     const ADDRESS_BYTES: usize = 3;
 
+    ghost ADDRESS_BYTES = { mr.address_bytes };
+
     const LARGEST: usize = 131_072;
 
-    ghost lawful = { record {
-      address_has_2_or_3_bytes = Prim.search rules;
-      largest_is_within_the_limit = Prim.search rules;
-      largest_is_within_the_address = Prim.search rules;
-      mask_is_a_byte = Prim.search rules;
-      mask_lacks_bits_1_and_0 = refl;
-      fail_bit_is_one_bit_above_2_or_0 = inr refl;
-      fail_bit_is_outside_the_mask = refl;
-      direct_has_no_fail_bit = λ direct. refl;
-      no_secure_write_without_fail_bit = λ none opcode named. Prim.grind (arith, nat_tests);
-      range_is_ordered = λ R N within alive. Prim.grind (arith, nat_tests);
-      range_lies_in_the_array = λ R N within alive. Prim.grind (arith, nat_tests);
-      paged_range_is_whole_pages = Prim.search rules;
-    } };
+    ghost LARGEST = { mr.largest };
 
-    fn address_length() -> usize {
-        Self::ADDRESS_BYTES
-    }
+    ghost address_bytes_is = { refl };
 
-    fn largest_size() -> usize {
-        Self::LARGEST
-    }
+    ghost largest_is = { refl };
+
+    ghost lawful = { mr_is_lawful };
 
     fn decode(opcode: u8) -> Option<Instruction> {
         match opcode {
@@ -60,9 +45,9 @@ impl Dialect for Mr {
         0
     }
 
-    // What the level protects lies at the bottom if bit 5 is set, else at the top.
+    // Bits 4 to 2 are a level. What it protects lies at the bottom if bit 5 is set, else at the top.
     fn protected(status_bits: u8, size: usize) -> (usize, usize) {
-        let bytes = match level(status_bits) {
+        let bytes = match bits(status_bits, 2, 3) {
             0 => 0,
             level => size >> (7 - level),
         };
@@ -84,11 +69,4 @@ impl Dialect for Mr {
     fn power_store(_status_bits: u8) -> bool {
         true
     }
-}
-
-// Bits 4 to 2.
-fn level(status_bits: u8) -> u8
-    ensures { result ≡ level status_bits }
-{
-    status_bits >> 2 & 7
 }

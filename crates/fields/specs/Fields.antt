@@ -1,8 +1,7 @@
 -- The fields of a captured line: blanks, decimal numbers, and bytes as pairs of hexadecimal digits. Each function reads
 -- one thing from the front of a text, and answers it together with the text behind it, or why the line is unreadable.
-use Rattle.std.specs.Prelude.{ℕ, zero, suc, ◌+◌, ◌-◌, ◌*◌, ◌^◌, min, Bool, true, false, cond, ◌&&◌, ◌||◌, List, [], ◌∷◌, map, Ok, Err, Result, ◌==◌, nat_le, nat_lt}
+use Rattle.std.specs.Prelude.{ℕ, zero, suc, ◌+◌, ◌-◌, ◌*◌, ◌^◌, min, Bool, true, false, cond, ◌&&◌, ◌||◌, List, [], ◌∷◌, Ok, Err, Result, ◌==◌, nat_le, nat_lt}
 use Rattle.std.specs.Borrow.{Bor}
-use Rattle.std.specs.List.{range_with_len}
 use Rattle.fields.specs.declared.Unreadable.{Unreadable}
 use Rattle.fields.specs.declared.Unreadable.TheVariants as unreadable
 
@@ -128,7 +127,3 @@ capped n = min n (2 ^ 32 - 1)
 abbrev pub with_capped : Read ℕ → Read ℕ
 with_capped (Ok (n, rest)) = Ok (capped n, rest)
 with_capped (Err why) = Err why
-
--- the rule of the code's table: what each character is worth
-abbrev pub digit_values : List ℕ
-digit_values = map worth (range_with_len 0 256)

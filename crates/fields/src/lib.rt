@@ -6,16 +6,20 @@
 // it. specs/Fields.antt says how each is written, in the same steps and names.
 #![tactic(auto)]
 
-ghost use Rattle.std.specs.Prelude.{◌≡◌, ◌+◌, ◌*◌, ◌^◌, ◌<◌, ◌≤◌, IfOk, slice_index};
+ghost use Rattle.std.specs.Prelude.{◌≡◌, ◌≤◌, Some, length};
+ghost use Rattle.std.specs.List.{prefix_len};
 ghost use Rattle.crc.specs.Transfer.{count_of};
-ghost use Rattle.fields.specs.Fields.{seen, capped, with_capped, blank, digit, digit_values, hexadecimal, no_second_digit, next, past_blanks};
-ghost use Rattle.fields.specs.Fields.{something_on, nothing_behind, digits, begins_with_digit, ends_here, number_at};
+ghost use Rattle.fields.specs.Fields.{seen, capped, with_capped, blank, hexadecimal, past_blanks};
+ghost use Rattle.fields.specs.Fields.{something_on, nothing_behind, digits, begins_with_digit, ends_here};
 ghost use Rattle.fields.specs.Fields.{read_number, read_byte, read_bytes, read_highest_first};
+ghost use Rattle.fields.specs.Reasons.{reason};
 
 use crc::AddressBytes;
+use std::error::Error;
+use std::fmt;
 
 // Why a line is unreadable: the first thing in reading order that is not as it should be.
-#[derive(Clone, Copy)]
+#[derive(Clone, Copy, PartialEq, Eq, Debug)]
 pub enum Unreadable {
     // Nothing but blanks.
     Empty,
@@ -33,73 +37,71 @@ pub enum Unreadable {
     TooLong,
 }
 
+impl fmt::Display for Unreadable {
+    ghost output = { λ why. Some (reason why) };
+
+    fn fmt<W: fmt::Write>(&self, f: &mut fmt::Formatter<W>) -> fmt::Result {
+        f.write_str(match self {
+            Unreadable::Empty => "nothing stands on the line",
+            Unreadable::Size =>
+                "the size is no power of two from 256 to 65536 (2 address bytes) or 16777216 (3)",
+            Unreadable::AddressBytes => "the number of address bytes is not 2 or 3",
+            Unreadable::NotHexadecimal => "a character is no hexadecimal digit",
+            Unreadable::HalfByte => "a byte has one hexadecimal digit only",
+            Unreadable::TooShort => "the line ends before the frame does",
+            Unreadable::TooLong => "something stands behind the frame",
+        })
+    }
+}
+
+impl Error for Unreadable {}
+
 fn is_blank(c: u8) -> bool
     ensures { result ≡ blank c }
 {
-    c == b' ' || c == b'\t' || c == b'\r'
+    matches!(c, b' ' | b'\t' | b'\r')
 }
 
-fn is_digit(c: u8) -> bool
-    ensures { result ≡ digit c }
-{
-    c >= b'0' && c <= b'9'
-}
-
-// What each character is worth as a hexadecimal digit, 16 where it is none. A table, since the digits of a frame follow no
-// rule and the processor would guess every other branch wrong.
+// What each character is worth as a hexadecimal digit. A table and not `to_digit`, with which framecheck takes half as
+// long again: the digits of a frame follow no rule, and the processor would guess every other branch wrong.
 #[rattlefmt::skip]
-const DIGIT_VALUES: [u8; 256] = [
-    16, 16, 16, 16, 16, 16, 16, 16, 16, 16, 16, 16, 16, 16, 16, 16,
-    16, 16, 16, 16, 16, 16, 16, 16, 16, 16, 16, 16, 16, 16, 16, 16,
-    16, 16, 16, 16, 16, 16, 16, 16, 16, 16, 16, 16, 16, 16, 16, 16,
-     0,  1,  2,  3,  4,  5,  6,  7,  8,  9, 16, 16, 16, 16, 16, 16, // 0 to 9
-    16, 10, 11, 12, 13, 14, 15, 16, 16, 16, 16, 16, 16, 16, 16, 16, // A to F
-    16, 16, 16, 16, 16, 16, 16, 16, 16, 16, 16, 16, 16, 16, 16, 16,
-    16, 10, 11, 12, 13, 14, 15, 16, 16, 16, 16, 16, 16, 16, 16, 16, // a to f
-    16, 16, 16, 16, 16, 16, 16, 16, 16, 16, 16, 16, 16, 16, 16, 16,
-    16, 16, 16, 16, 16, 16, 16, 16, 16, 16, 16, 16, 16, 16, 16, 16,
-    16, 16, 16, 16, 16, 16, 16, 16, 16, 16, 16, 16, 16, 16, 16, 16,
-    16, 16, 16, 16, 16, 16, 16, 16, 16, 16, 16, 16, 16, 16, 16, 16,
-    16, 16, 16, 16, 16, 16, 16, 16, 16, 16, 16, 16, 16, 16, 16, 16,
-    16, 16, 16, 16, 16, 16, 16, 16, 16, 16, 16, 16, 16, 16, 16, 16,
-    16, 16, 16, 16, 16, 16, 16, 16, 16, 16, 16, 16, 16, 16, 16, 16,
-    16, 16, 16, 16, 16, 16, 16, 16, 16, 16, 16, 16, 16, 16, 16, 16,
-    16, 16, 16, 16, 16, 16, 16, 16, 16, 16, 16, 16, 16, 16, 16, 16,
+static DIGITS: [Option<u8>; 256] = [
+    None, None, None, None, None, None, None, None, None, None, None, None, None, None, None, None,
+    None, None, None, None, None, None, None, None, None, None, None, None, None, None, None, None,
+    None, None, None, None, None, None, None, None, None, None, None, None, None, None, None, None,
+    Some(0), Some(1), Some(2), Some(3), Some(4), Some(5), Some(6), Some(7), Some(8), Some(9), None, None, None, None, None, None, // 0 to 9
+    None, Some(10), Some(11), Some(12), Some(13), Some(14), Some(15), None, None, None, None, None, None, None, None, None, // A to F
+    None, None, None, None, None, None, None, None, None, None, None, None, None, None, None, None,
+    None, Some(10), Some(11), Some(12), Some(13), Some(14), Some(15), None, None, None, None, None, None, None, None, None, // a to f
+    None, None, None, None, None, None, None, None, None, None, None, None, None, None, None, None,
+    None, None, None, None, None, None, None, None, None, None, None, None, None, None, None, None,
+    None, None, None, None, None, None, None, None, None, None, None, None, None, None, None, None,
+    None, None, None, None, None, None, None, None, None, None, None, None, None, None, None, None,
+    None, None, None, None, None, None, None, None, None, None, None, None, None, None, None, None,
+    None, None, None, None, None, None, None, None, None, None, None, None, None, None, None, None,
+    None, None, None, None, None, None, None, None, None, None, None, None, None, None, None, None,
+    None, None, None, None, None, None, None, None, None, None, None, None, None, None, None, None,
+    None, None, None, None, None, None, None, None, None, None, None, None, None, None, None, None,
 ];
-
-fn digit_value(c: u8) -> u8
-    ensures { result ≡ slice_index digit_values c }
-{
-    DIGIT_VALUES[usize::from(c)]
-}
 
 fn hexadecimal_digit(c: u8, why: Unreadable) -> Result<u8, Unreadable>
     ensures { result ≡ hexadecimal why c }
 {
-    let value = digit_value(c);
-    if value < 16 { Ok(value) } else { Err(why) }
+    DIGITS[usize::from(c)].ok_or(why)
 }
 
-fn next_character(text: &[u8], why: Unreadable) -> Result<(u8, &[u8]), Unreadable>
-    ensures { seen result ≡ next why text.now }
+// How many blanks a text begins with.
+fn count_blanks(text: &[u8]) -> usize
+    ensures value { result ≡ prefix_len blank text.now }
+    ensures within { result ≤ length text.now }
 {
-    match text {
-        [first, rest @ ..] => Ok((*first, rest)),
-        [] => Err(why),
-    }
+    text.iter().take_while(|c| is_blank(**c)).count()
 }
 
 fn skip_blanks(text: &[u8]) -> &[u8]
     ensures { result.now ≡ past_blanks text.now }
 {
-    let mut rest = text;
-    while let [first, tail @ ..] = rest {
-        if !is_blank(*first) {
-            break;
-        }
-        rest = tail;
-    }
-    rest
+    &text[count_blanks(text)..]
 }
 
 // Refuses a line that has nothing but blanks.
@@ -131,13 +133,10 @@ fn take_digits(text: &[u8]) -> (u32, &[u8])
 {
     let mut number: u32 = 0;
     let mut rest = text;
-    while let [first, tail @ ..] = rest {
-        if !is_digit(*first) {
-            break;
-        }
+    while let [digit @ b'0'..=b'9', tail @ ..] = rest {
         number = number
             .saturating_mul(10)
-            .saturating_add(u32::from(*first - b'0'));
+            .saturating_add(u32::from(*digit - b'0'));
         rest = tail;
     }
     (number, rest)
@@ -146,24 +145,22 @@ fn take_digits(text: &[u8]) -> (u32, &[u8])
 fn starts_with_digit(text: &[u8]) -> bool
     ensures { result ≡ begins_with_digit text.now }
 {
-    match text {
-        [first, ..] => is_digit(*first),
-        [] => false,
-    }
+    text.first().is_some_and(|c| c.is_ascii_digit())
 }
 
 fn is_at_end(text: &[u8]) -> bool
     ensures { result ≡ ends_here text.now }
 {
-    match text {
-        [first, ..] => is_blank(*first),
-        [] => true,
-    }
+    text.first().is_none_or(|c| is_blank(*c))
 }
 
-fn take_number(text: &[u8], why: Unreadable) -> Result<(u32, &[u8]), Unreadable>
-    ensures { seen result ≡ with_capped (number_at why text.now) }
+// Reads a decimal number, at least one digit with a blank or the end behind. Anything else is refused with the reason
+// given. A number past the largest of 32 bits is answered as that.
+#[tactic(auto, unfolding(crate::specs::Fields::read_number))]
+pub fn read_number(text: &[u8], why: Unreadable) -> Result<(u32, &[u8]), Unreadable>
+    ensures { seen result ≡ with_capped (read_number why text.now) }
 {
+    let text = skip_blanks(text);
     let (number, rest) = take_digits(text);
     if starts_with_digit(text) && is_at_end(rest) {
         Ok((number, rest))
@@ -172,92 +169,63 @@ fn take_number(text: &[u8], why: Unreadable) -> Result<(u32, &[u8]), Unreadable>
     }
 }
 
-// Reads a decimal number, at least one digit with a blank or the end behind. Anything else is refused with the reason
-// given. A number past the largest of 32 bits is answered as that.
-pub fn read_number(text: &[u8], why: Unreadable) -> Result<(u32, &[u8]), Unreadable>
-    ensures { seen result ≡ with_capped (read_number why text.now) }
+#[tactic(auto, unfolding(crate::specs::Fields::read_byte))]
+fn read_byte(text: &[u8]) -> Result<(u8, &[u8]), Unreadable>
+    ensures { seen result ≡ read_byte text.now }
 {
-    take_number(skip_blanks(text), why)
-}
-
-// Why a byte's second character is no digit.
-fn why_no_second_digit(c: u8) -> Unreadable
-    ensures { result ≡ no_second_digit c }
-{
-    if is_blank(c) {
+    let (first, text) = skip_blanks(text).split_first().ok_or(Unreadable::TooShort)?;
+    let high = hexadecimal_digit(*first, Unreadable::NotHexadecimal)?;
+    let (second, text) = text.split_first().ok_or(Unreadable::HalfByte)?;
+    let why = if is_blank(*second) {
         Unreadable::HalfByte
     } else {
         Unreadable::NotHexadecimal
-    }
+    };
+    let low = hexadecimal_digit(*second, why)?;
+    Ok((high * 16 + low, text))
 }
 
-fn byte_of(high: u8, low: u8) -> u8
-    requires { (high < 16) × (low < 16) }
-    ensures { result ≡ high * 16 + low }
+// So many bytes.
+fn read_bytes<const N: usize>(text: &[u8]) -> Result<([u8; N], &[u8]), Unreadable>
+    ensures { seen result ≡ read_bytes N text.now }
 {
-    high * 16 + low
-}
-
-fn read_byte(text: &[u8]) -> Result<(u8, &[u8]), Unreadable>
-    ensures read { seen result ≡ read_byte text.now }
-    ensures bound { IfOk result (λ v. v.0 < 256) }
-{
-    let (c, text) = next_character(skip_blanks(text), Unreadable::TooShort)?;
-    let high = hexadecimal_digit(c, Unreadable::NotHexadecimal)?;
-    let (c, text) = next_character(text, Unreadable::HalfByte)?;
-    let low = hexadecimal_digit(c, why_no_second_digit(c))?;
-    Ok((byte_of(high, low), text))
-}
-
-// The number with one byte more behind it.
-fn with_byte(number: u32, byte: u8) -> u32
-    requires { number < 2 ^ 24 }
-    ensures { result ≡ number * 256 + byte }
-{
-    number * 256 + u32::from(byte)
-}
-
-// A number of so many bytes, highest first.
-fn read_highest_first(text: &[u8], count: usize) -> Result<(u32, &[u8]), Unreadable>
-    requires { count ≤ 4 }
-    ensures read { seen result ≡ read_highest_first count 0 text.now }
-    ensures bound { IfOk result (λ v. v.0 < 256 ^ count) }
-{
-    let mut number = 0;
+    let mut bytes = [0; N];
     let mut rest = text;
-    for _ in 0..count {
+    for place in bytes.iter_mut() {
         let (byte, behind) = read_byte(rest)?;
-        number = with_byte(number, byte);
+        *place = byte;
         rest = behind;
     }
-    Ok((number, rest))
+    Ok((bytes, rest))
 }
 
 // Reads an address of two or three bytes, highest first. Refuses a text that does not begin with so many bytes.
 pub fn read_address(text: &[u8], address_bytes: AddressBytes) -> Result<(u32, &[u8]), Unreadable>
     ensures { seen result ≡ read_highest_first (count_of address_bytes) 0 text.now }
 {
-    read_highest_first(text, address_bytes.count())
+    match address_bytes {
+        AddressBytes::Two => {
+            let ([high, low], rest) = read_bytes::<2>(text)?;
+            Ok((u32::from_be_bytes([0, 0, high, low]), rest))
+        }
+        AddressBytes::Three => {
+            let ([high, middle, low], rest) = read_bytes::<3>(text)?;
+            Ok((u32::from_be_bytes([0, high, middle, low]), rest))
+        }
+    }
 }
 
 // Reads a sum of two bytes, high byte first. Refuses a text that does not begin with two bytes.
 pub fn read_sum(text: &[u8]) -> Result<(u16, &[u8]), Unreadable>
     ensures { seen result ≡ read_highest_first 2 0 text.now }
 {
-    let (sum, rest) = read_highest_first(text, 2)?;
-    Ok((sum as u16, rest))
+    let (bytes, rest) = read_bytes(text)?;
+    Ok((u16::from_be_bytes(bytes), rest))
 }
 
 // Reads the 64 data bytes of a page. Refuses a text that does not begin with so many bytes.
 pub fn read_page(text: &[u8]) -> Result<([u8; 64], &[u8]), Unreadable>
     ensures { seen result ≡ read_bytes 64 text.now }
 {
-    let mut page = [0; 64];
-    let mut rest = text;
-    for i in 0..64 {
-        let (byte, behind) = read_byte(rest)?;
-        page[i] = byte;
-        rest = behind;
-    }
-    Ok((page, rest))
+    read_bytes(text)
 }

@@ -7,7 +7,7 @@
 // only the reading and the writing.
 #![tactic(auto)]
 
-use report::Tally;
+use report::{Lines, Tally};
 use std::io::{Read, Write};
 
 // So many bytes of the report are gathered before they are written.
@@ -17,20 +17,16 @@ fn check(rt: &HostRuntime) -> anyhow::Result<()> {
     let heap = rt.alloc();
     let mut text = Vec::new(heap);
     rt.stdin().read_to_end(&mut text)?;
-    let mut rest = text.as_slice();
-    let mut number: u64 = 0;
     let mut tally = Tally::new();
     let mut out = String::new(heap);
-    while let Some((line, behind)) = report::split_line(rest) {
+    for (number, line) in (1u64..).zip(Lines(text.as_slice())) {
         let examined = capture::examine(line);
-        number = number.saturating_add(1);
         tally.count(&examined);
         report::add_line(&mut out, number, examined)?;
         if out.len() >= GATHERED {
             rt.stdout().write_all(out.as_bytes())?;
             out.clear();
         }
-        rest = behind;
     }
     report::add_tally(&mut out, &tally)?;
     rt.stdout().write_all(out.as_bytes())?;

@@ -9,11 +9,11 @@
 #![tactic(auto)]
 
 use dialect::Nv;
-use part::Part;
+use part::{Answer, Part, send};
 use refusal::Refusal;
 use rules::Call;
 use shadowed::Shadowed;
-use std::io;
+use std::{fmt, io};
 
 // The calls of the session. The first 5 wake the part. Up to call 24 they write the lap and store it: enable, write 01 12 34
 // 56 from address 90 on (it lies in page 2), store. The rest read it back.
@@ -24,80 +24,32 @@ const SESSION: [Call; 33] = [
     Call::Tick,
     Call::Tick,
     Call::Select,
-    Call::Byte {
-        value: 0x06,
-        held: false,
-    },
+    send!(0x06),
     Call::Release { clocks: 0 },
     Call::Select,
-    Call::Byte {
-        value: 0x02,
-        held: false,
-    },
-    Call::Byte {
-        value: 0x00,
-        held: false,
-    },
-    Call::Byte {
-        value: 0x90,
-        held: false,
-    },
-    Call::Byte {
-        value: 0x01,
-        held: false,
-    },
-    Call::Byte {
-        value: 0x12,
-        held: false,
-    },
-    Call::Byte {
-        value: 0x34,
-        held: false,
-    },
-    Call::Byte {
-        value: 0x56,
-        held: false,
-    },
+    send!(0x02),
+    send!(0x00),
+    send!(0x90),
+    send!(0x01),
+    send!(0x12),
+    send!(0x34),
+    send!(0x56),
     Call::Release { clocks: 0 },
     Call::Select,
-    Call::Byte {
-        value: 0x3C,
-        held: false,
-    },
+    send!(0x3C),
     Call::Release { clocks: 0 },
     Call::Tick,
     Call::Tick,
     Call::Tick,
     Call::Tick,
     Call::Select,
-    Call::Byte {
-        value: 0x03,
-        held: false,
-    },
-    Call::Byte {
-        value: 0x00,
-        held: false,
-    },
-    Call::Byte {
-        value: 0x90,
-        held: false,
-    },
-    Call::Byte {
-        value: 0x00,
-        held: false,
-    },
-    Call::Byte {
-        value: 0x00,
-        held: false,
-    },
-    Call::Byte {
-        value: 0x00,
-        held: false,
-    },
-    Call::Byte {
-        value: 0x00,
-        held: false,
-    },
+    send!(0x03),
+    send!(0x00),
+    send!(0x90),
+    send!(0x00),
+    send!(0x00),
+    send!(0x00),
+    send!(0x00),
     Call::Release { clocks: 0 },
 ];
 
@@ -111,6 +63,11 @@ const WAKING: [Call; 5] = [
 
 const LAP: [u8; 4] = [0x01, 0x12, 0x34, 0x56];
 
+// The bytes of each image, and the place of the lap in it.
+const SIZE: usize = 256;
+
+const PLACE: usize = 0x90;
+
 // The heading above the call of this number, counted from 1.
 fn heading(number: usize) -> Option<&'static str> {
     match number {
@@ -123,110 +80,108 @@ fn heading(number: usize) -> Option<&'static str> {
     }
 }
 
-fn print_bytes(rt: &HostRuntime, bytes: &[u8]) -> io::Result<()> {
-    for byte in bytes {
-        print!(rt; " {byte:02X}")?;
-    }
-    Ok(())
-}
+// Bytes, each behind a space.
+#[derive(Drop)]
+struct Bytes<'a>(&'a [u8]);
 
-fn print_call(rt: &HostRuntime, number: usize, call: Call) -> io::Result<()> {
-    print!(rt; "{number:>3}. ")?;
-    match call {
-        Call::Select => print!(rt; "select"),
-        Call::Byte { value, held: _ } => print!(rt; "send {value:02X}"),
-        Call::Release { clocks: _ } => print!(rt; "release"),
-        Call::Tick => print!(rt; "wait for one page"),
-        Call::Cut { charged: _ } => print!(rt; "power off"),
-        Call::PowerUp => print!(rt; "power on"),
+impl fmt::Display for Bytes<'_> {
+    fn fmt<W: fmt::Write>(&self, f: &mut fmt::Formatter<W>) -> fmt::Result {
+        for byte in self.0 {
+            write!(f, " {byte:02X}")?;
+        }
+        Ok(())
     }
 }
 
-// What a call answered: pages to go, and the byte driven.
-type Answer = Result<(u32, Option<u8>), Refusal>;
+// A call, as the session tells it.
+#[derive(Drop)]
+struct Told(Call);
 
-// Makes one call.
-fn make(part: &mut Part<Nv, Shadowed>, call: Call) -> Answer {
-    let mut to_go = 0;
-    let mut driven = None;
-    match call {
-        Call::Select => part.select()?,
-        Call::Byte { value, held } => driven = part.byte(value, held)?,
-        Call::Release { clocks } => part.release(clocks)?,
-        Call::Tick => to_go = part.tick()?,
-        Call::Cut { charged } => part.cut(charged)?,
-        Call::PowerUp => part.power_up()?,
+impl fmt::Display for Told {
+    fn fmt<W: fmt::Write>(&self, f: &mut fmt::Formatter<W>) -> fmt::Result {
+        match self.0 {
+            Call::Select => f.write_str("select"),
+            Call::Byte { value, held: _ } => write!(f, "send {value:02X}"),
+            Call::Release { clocks: _ } => f.write_str("release"),
+            Call::Tick => f.write_str("wait for one page"),
+            Call::Cut { charged: _ } => f.write_str("power off"),
+            Call::PowerUp => f.write_str("power on"),
+        }
     }
-    Ok((to_go, driven))
+}
+
+// A call and what it came to. Only a wait tells the pages still to go.
+#[derive(Drop)]
+struct Made(Call, Result<Answer, Refusal>);
+
+impl fmt::Display for Made {
+    fn fmt<W: fmt::Write>(&self, f: &mut fmt::Formatter<W>) -> fmt::Result {
+        let Made(call, result) = *self;
+        write!(f, "{}: ", Told(call))?;
+        match result {
+            Err(refusal) => write!(f, "{refusal}, driven --"),
+            Ok(answer) => {
+                f.write_str("answer 0, ")?;
+                if call == Call::Tick {
+                    write!(f, "{} to go, ", answer.to_go)?;
+                }
+                match answer.driven {
+                    None => f.write_str("driven --"),
+                    Some(byte) => write!(f, "driven {byte:02X}"),
+                }
+            }
+        }
+    }
 }
 
 // Works a new part through the calls before, and then makes the call. What it leaves is in the memory.
-fn play(memory: &mut [u8; 512], before: &[Call], call: Call) -> Answer {
+fn play(memory: &mut [u8], before: &[Call], call: Call) -> Result<Answer, Refusal> {
     let mut part = Part::new(Nv, Shadowed::over(memory));
     part.work(before);
-    let answer = make(&mut part, call);
+    let answer = part.make(call);
     let _ = part.into_cells();
     answer
 }
 
-fn print_answer(rt: &HostRuntime, call: Call, answer: Answer) -> io::Result<()> {
-    match (call, answer) {
-        (_, Err(refusal)) => {
-            let number = refusal.number();
-            print!(rt; ": refused with {number}, driven --")
-        }
-        (Call::Tick, Ok((to_go, _))) => print!(rt; ": answer 0, {to_go} to go, driven --"),
-        (_, Ok((_, None))) => print!(rt; ": answer 0, driven --"),
-        (_, Ok((_, Some(byte)))) => print!(rt; ": answer 0, driven {byte:02X}"),
-    }
-}
-
 fn print_session(rt: &HostRuntime) -> io::Result<()> {
-    for at in 0..SESSION.len() {
-        if let Some(words) = heading(at + 1) {
+    for (at, call) in SESSION.iter().enumerate() {
+        let number = at + 1;
+        if let Some(words) = heading(number) {
             println!(rt; "{words}")?;
         }
-        let mut memory = [0xFF; 512];
-        let answer = play(&mut memory, &SESSION[..at], SESSION[at]);
-        print_call(rt, at + 1, SESSION[at])?;
-        print_answer(rt, SESSION[at], answer)?;
-        print!(rt; ", kept")?;
-        // 256 bytes of working image lie before the kept image, and address 90 is 144.
-        print_bytes(rt, &memory[400..404])?;
-        println!(rt; "")?;
+        let mut memory = [0xFF; 2 * SIZE];
+        let made = Made(*call, play(&mut memory, &SESSION[..at], *call));
+        let kept = Bytes(&memory[SIZE + PLACE..][..LAP.len()]);
+        println!(rt; "{number:>3}. {made}, kept{kept}")?;
     }
     Ok(())
 }
 
-// The four working bytes from address 90 on, 144, after the calls, the cut and the next waking.
-fn found_after(calls: &[Call], charged: bool) -> [u8; 4] {
-    let mut memory = [0xFF; 512];
+// Prints what the working image has at the lap's place after the calls, the cut and the next waking.
+fn print_found(rt: &HostRuntime, calls: &[Call], charged: bool) -> io::Result<()> {
+    let mut memory = [0xFF; 2 * SIZE];
     let mut part = Part::new(Nv, Shadowed::over(&mut memory));
     part.work(calls);
-    part.work(&[Call::Cut { charged }]);
+    let _ = part.cut(charged);
     part.work(&WAKING);
     let _ = part.into_cells();
-    [memory[144], memory[145], memory[146], memory[147]]
-}
-
-fn print_found(rt: &HostRuntime, charge: &str, found: [u8; 4]) -> io::Result<()> {
-    let verdict = if found == LAP {
-        "the lap is there"
+    let found = &memory[PLACE..PLACE + LAP.len()];
+    let charge = if charged { "charged" } else { "uncharged" };
+    let verdict = if found == LAP.as_slice() {
+        "there"
     } else {
-        "the lap is lost"
+        "lost"
     };
-    print!(rt; "     {charge}: {verdict},")?;
-    print_bytes(rt, &found)?;
-    println!(rt; "")
+    println!(rt; "     {charge}: the lap is {verdict},{}", Bytes(found))
 }
 
 // Cuts the power after each call from the 6th to the 24th.
 fn print_cuts(rt: &HostRuntime) -> io::Result<()> {
-    for at in 5..24 {
-        print_call(rt, at + 1, SESSION[at])?;
-        println!(rt; "")?;
-        print_found(rt, "uncharged", found_after(&SESSION[..at + 1], false))?;
-        print_found(rt, "charged", found_after(&SESSION[..at + 1], true))?;
+    for (at, call) in SESSION.iter().enumerate().take(24).skip(5) {
+        let number = at + 1;
+        println!(rt; "{number:>3}. {}", Told(*call))?;
+        print_found(rt, &SESSION[..number], false)?;
+        print_found(rt, &SESSION[..number], true)?;
     }
     Ok(())
 }

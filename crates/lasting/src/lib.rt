@@ -8,7 +8,7 @@ ghost use Rattle.cells.specs.Laws.{size_of, Bytes};
 ghost use Rattle.lasting.specs.Array.{site_of, lawful};
 ghost use Rattle.lasting.specs.Whole.{whole};
 
-use cells::{Cells, PAGE};
+use cells::{Cells, image};
 use refusal::Refusal;
 
 mod whole;
@@ -36,11 +36,7 @@ impl<'a> Lasting<'a> {
         ensures kept { whole self.now.bytes.now ≡ after_keep (site_of self.now).pages page (whole self.now.bytes.now) }
         ensures recalled { whole self.now.bytes.now ≡ after_recall (site_of self.now).pages page (whole self.now.bytes.now) }
     {
-        if page < whole::size(self.bytes) / PAGE {
-            Ok(())
-        } else {
-            Err(Refusal::PagePastEnd)
-        }
+        image::find_page(whole::size(self.bytes), page)
     }
 }
 

@@ -1,4 +1,6 @@
-// Size, get, put and fade on a buffer that is both images at once.
+// Size, get, put and fade on a buffer that is both images at once. They are functions over the slice and no methods, since a
+// proof does not know what a write leaves in a slice that is a struct's field, nor that such a slice holds bytes. Get and put
+// read as those of shadowed cells do, and stay apart for their promises: each tells its own images, and the code is a line.
 ghost use Rattle.std.specs.Prelude.{◌≡◌, ◌<◌, ◌≤◌, true, length};
 ghost use Rattle.refusal.specs.Numbers.{numbered};
 ghost use Rattle.cells.specs.Images.{got, address_answer, after_put};
@@ -21,8 +23,7 @@ pub fn size(bytes: &[u8]) -> usize
 pub fn get(bytes: &[u8], at: usize) -> Result<u8, Refusal>
     ensures { numbered result ≡ got (size_in bytes.now) at (whole bytes.now).working }
 {
-    let size = size(bytes);
-    image::get(&bytes[0..size], at)
+    image::get(&bytes[..size(bytes)], at)
 }
 
 // Sets the byte at an address, in both images. An address past the end is refused with 41, and nothing changes.
@@ -32,13 +33,11 @@ pub fn put(bytes: &mut [u8], at: usize, byte: u8) -> Result<(), Refusal>
     ensures behind { behind bytes.new ≡ behind bytes.old }
 {
     let size = size(bytes);
-    image::put(&mut bytes[0..size], at, byte)
+    image::put(&mut bytes[..size], at, byte)
 }
 
-// Leaves the buffer as it is. By the call of `size` the checker learns that a buffer holds bytes, each below 256.
+// Leaves the buffer as it is.
 pub fn fade(bytes: &mut [u8])
     ensures same { bytes.new ≡ bytes.old }
     ensures bytes { Bytes (size_in bytes.old) (whole bytes.old).working }
-{
-    let _size = size(bytes);
-}
+{}

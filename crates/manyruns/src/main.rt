@@ -6,7 +6,11 @@
 // machine that shares nothing with the code here, and was written from docs/ alone.
 #![tactic(auto)]
 
-use dialect::{Mr, Nv};
+ghost use Rattle.std.specs.Prelude.{length};
+ghost use Rattle.std.specs.Iterator.{at_most};
+
+use cells::Cells;
+use dialect::{Dialect, Mr, Nv};
 use lasting::Lasting;
 use part::Part;
 use replay::Bench;
@@ -14,31 +18,41 @@ use shadowed::Shadowed;
 use std::alloc::{AllocError, Global};
 use std::io::Read;
 
-// What nvbench prints for a file.
-fn play_nv(heap: Global, file: &[u8], out: &mut Vec<u8>) -> Result<(), AllocError> {
-    let mut memory = [0xFF; 512];
-    let mut bench = Bench::new(Part::new(Nv, Shadowed::over(&mut memory)), heap);
-    let played = bench.play(file, out);
-    let _ = bench.into_part().into_cells();
-    played
+// The files of a pack, up to the end or to the first that is not whole.
+#[derive(Drop)]
+struct Files<'a> {
+    rest: &'a [u8],
 }
 
-// What mrbench prints for it.
-fn play_mr(heap: Global, file: &[u8], out: &mut Vec<u8>) -> Result<(), AllocError> {
-    let mut memory = [0xFF; 256];
-    let mut bench = Bench::new(Part::new(Mr, Lasting::over(&mut memory)), heap);
+impl<'a> Iterator for Files<'a> {
+    type Item = &'a [u8];
+
+    ghost remaining = { λ s. at_most (length s.rest.now) };
+
+    fn next(&mut self) -> Option<&'a [u8]> {
+        let (len, behind) = self.rest.split_first_chunk::<3>()?;
+        let len = u32::from_be_bytes([0, len[0], len[1], len[2]]);
+        let (file, rest) = behind.split_at_checked(len as usize)?;
+        self.rest = rest;
+        Some(file)
+    }
+}
+
+// What a bench prints for a file that is played on a part.
+fn play_on<D: Dialect + Drop, C: Cells + Drop>(
+    heap: Global,
+    part: Part<D, C>,
+    file: &[u8],
+    out: &mut Vec<u8>,
+) -> Result<(), AllocError> {
+    let mut bench = Bench::new(part, heap);
     let played = bench.play(file, out);
     let _ = bench.into_part().into_cells();
     played
 }
 
 fn print_digest(rt: &HostRuntime, number: usize, bench: &str, text: &[u8]) -> anyhow::Result<()> {
-    let mut lines: usize = 0;
-    for byte in text {
-        if *byte == b'\n' {
-            lines = lines.saturating_add(1);
-        }
-    }
+    let lines = text.iter().filter(|byte| **byte == b'\n').count();
     let bytes = text.len();
     let sum = crc::sum(text);
     println!(rt; "{number} {bench} {lines} lines {bytes} bytes sum {sum:04X}")?;
@@ -47,39 +61,25 @@ fn print_digest(rt: &HostRuntime, number: usize, bench: &str, text: &[u8]) -> an
 
 fn play_both(rt: &HostRuntime, number: usize, file: &[u8]) -> anyhow::Result<()> {
     let mut text = Vec::new(rt.alloc());
-    play_nv(rt.alloc(), file, &mut text)?;
+    let mut memory = [0xFF; 512];
+    let part = Part::new(Nv, Shadowed::over(&mut memory));
+    play_on(rt.alloc(), part, file, &mut text)?;
     print_digest(rt, number, "nv", text.as_slice())?;
     text.clear();
-    play_mr(rt.alloc(), file, &mut text)?;
+    let mut memory = [0xFF; 256];
+    let part = Part::new(Mr, Lasting::over(&mut memory));
+    play_on(rt.alloc(), part, file, &mut text)?;
     print_digest(rt, number, "mr", text.as_slice())
 }
 
-// The first file of a pack, and what stands behind it; none if no whole file is left.
-fn split_file(pack: &[u8]) -> Option<(&[u8], &[u8])> {
-    let [high, middle, low, rest @ ..] = pack else {
-        return None;
-    };
-    let length = (*high as usize * 256 + *middle as usize) * 256 + *low as usize;
-    if rest.len() < length {
-        return None;
-    }
-    Some((&rest[0..length], &rest[length..]))
-}
-
-fn play_pack(rt: &HostRuntime) -> anyhow::Result<()> {
+fn main(rt: HostRuntime) -> anyhow::Result<()> {
     let mut pack = Vec::new(rt.alloc());
     rt.stdin().read_to_end(&mut pack)?;
-    let mut rest = pack.as_slice();
-    for number in 0..pack.len() {
-        let Some((file, behind)) = split_file(rest) else {
-            break;
-        };
-        play_both(rt, number, file)?;
-        rest = behind;
+    let files = Files {
+        rest: pack.as_slice(),
+    };
+    for (number, file) in files.enumerate() {
+        play_both(&rt, number, file)?;
     }
     Ok(())
-}
-
-fn main(rt: HostRuntime) -> anyhow::Result<()> {
-    play_pack(&rt)
 }

@@ -4,18 +4,13 @@
 //     nvbench < examples/lap-kept.run
 #![tactic(auto)]
 
-use benchrun::play_input;
+use benchrun::play_input_on;
 use dialect::Nv;
 use part::Part;
-use replay::Bench;
 use shadowed::Shadowed;
 
 fn main(rt: HostRuntime) -> anyhow::Result<()> {
     let mut memory = [0xFF; 512];
-    let part = Part::new(Nv, Shadowed::over(&mut memory));
-    let mut bench = Bench::new(part, rt.alloc());
-    let session = play_input(&rt, &mut bench);
-    let _ = bench.into_part().into_cells();
-    session?;
+    play_input_on(&rt, Part::new(Nv, Shadowed::over(&mut memory)))?;
     Ok(())
 }

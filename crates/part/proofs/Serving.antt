@@ -1,54 +1,42 @@
 -- A call that does what the rules say is served.
-use Rattle.std.proofs.Common.{◌≡◌, ℕ, Bool, None, Err, Option, Result, sym, refl, ap, ◌∙◌, subst, arith}
+use Rattle.std.proofs.Common.{◌≡◌, ℕ, Bool, true, false, None, Err, Option, Result, sym, refl, ap, ◌∙◌, subst}
 use Rattle.refusal.specs.declared.Refusal.{Refusal}
-use Rattle.dialect.specs.Facts.{Facts, Lawful}
-use Rattle.cells.specs.Images.{Images}
-use Rattle.cells.specs.Laws.{Site}
+use Rattle.dialect.specs.Facts.{Lawful}
 use Rattle.rules.specs.declared.Call.{Call}
 use Rattle.rules.specs.declared.Call.TheVariants.{Select, Byte, Release, Tick, Cut, PowerUp}
-use Rattle.selection.specs.declared.control.Control.{Control}
-use Rattle.selection.specs.declared.phase.Selection.{Selection}
-use Rattle.selection.specs.View.{kind_of, state_of, selection_of}
-use Rattle.part.specs.View.{whole_of, Does}
+use Rattle.part.specs.declared.Awake.{Awake}
+use Rattle.part.specs.View.{IsAwake, Ready, CameTo, Does}
 use Rattle.rules.specs.Step.{Out, step, refusing}
 use Rattle.rules.specs.Machine.{Changes, driven}
 use Rattle.promises.specs.Served.{Whole, Served}
 use Rattle.promises.proofs.Serve.{serves}
 
-pub done_serves : {c : Call} {w w' : Whole} {answer : Result ℕ Refusal} {drove : Option ℕ} → Lawful w.kind.facts
-    → (o : Out) → step w.kind w.control c ≡ o → w'.kind ≡ w.kind → w'.control ≡ o.state → answer ≡ o.answer
-    → drove ≡ driven w.kind w.images.working o.drive → Changes w.kind o.events w.images w'.images
-    → Served c w answer drove w'
-done_serves {c} {w} {w'} {answer} {drove} law o is kind control answers drives changes =
-    serves law kind (control ∙ ap (λ (x : Out). x.state) (sym is)) (record {
-      answer = answers ∙ ap (λ (x : Out). x.answer) (sym is);
-      drove = drives ∙ ap (λ (x : Out). driven w.kind w.images.working x.drive) (sym is);
-      images = subst (λ (x : Out). Changes w.kind x.events w.images w'.images) (sym is) changes;
+pub serves_by : {c : Call} {w w' : Whole} {answer : Result ℕ Refusal} {drove : Option ℕ} {o : Out} → Lawful w.kind.facts
+    → step w.kind w.control c ≡ o → CameTo o w answer drove w' → Served c w answer drove w'
+serves_by {c} {w} {w'} {answer} {drove} law is came =
+    serves law came.kind (came.control ∙ ap (λ (x : Out). x.state) (sym is)) (record {
+      answer = came.answer ∙ ap (λ (x : Out). x.answer) (sym is);
+      drove = came.drove ∙ ap (λ (x : Out). driven w.kind w.images.working x.drive) (sym is);
+      images = subst (λ (x : Out). Changes w.kind x.events w.images w'.images) (sym is) came.images;
     })
+
+-- a call of a part that can be worked
+pub served : {c : Call} {a : Awake} {w w' : Whole} {r : Result ℕ Refusal} {d : Option ℕ} → Lawful w.kind.facts → IsAwake a w
+    → Does c a.activity w r d w' → Served c w r d w'
+served {c} law awake does = serves_by law (awake.steps c) does
 
 pub refused_serves : {c : Call} {w : Whole} {r : Refusal} → Lawful w.kind.facts → step w.kind w.control c ≡ refusing w.control r
     → Served c w (Err r) None w
-refused_serves {c} {w} {r} law is = done_serves law (refusing w.control r) is refl refl refl refl refl
+refused_serves law is = serves_by law is (record { kind = refl; control = refl; answer = refl; drove = refl; images = refl })
 
-pub select_is_not_power_up : Select ≡ PowerUp → ⊥
-select_is_not_power_up e = let z : ◌≡◌ {A = ℕ} 0 1 = cc in omega arith
+abbrev pub is_power_up : Call → Bool
+is_power_up Select = false
+is_power_up (Byte b held) = false
+is_power_up (Release clocks) = false
+is_power_up Tick = false
+is_power_up (Cut charged) = false
+is_power_up PowerUp = true
 
-pub byte_is_not_power_up : (b : ℕ) (held : Bool) → Byte b held ≡ PowerUp → ⊥
-byte_is_not_power_up b held e = let z : ◌≡◌ {A = ℕ} 0 1 = cc in omega arith
-
-pub release_is_not_power_up : (clocks : ℕ) → Release clocks ≡ PowerUp → ⊥
-release_is_not_power_up clocks e = let z : ◌≡◌ {A = ℕ} 0 1 = cc in omega arith
-
-pub tick_is_not_power_up : Tick ≡ PowerUp → ⊥
-tick_is_not_power_up e = let z : ◌≡◌ {A = ℕ} 0 1 = cc in omega arith
-
-pub cut_is_not_power_up : (charged : Bool) → Cut charged ≡ PowerUp → ⊥
-cut_is_not_power_up charged e = let z : ◌≡◌ {A = ℕ} 0 1 = cc in omega arith
-
--- a call of a part that is on, from what it did
-pub on_serves : (f : Facts) (l : Bool) (at at' : Site) (i i' : Images) (c c' : Control) (x x' : Selection) (call : Call) (r : Result ℕ Refusal) (d : Option ℕ) (o : Out)
-    → Lawful f → step (kind_of f l at) (state_of c (selection_of x)) call ≡ o
-    → Does o (kind_of f l at) i at (state_of c' (selection_of x')) r d i' at'
-    → Served call (whole_of f l at i c x) r d (whole_of f l at' i' c' x')
-on_serves f l at at' i i' c c' x x' call r d o law is does =
-    done_serves law o is (ap (kind_of f l) does.done.site) does.control does.answer does.drove does.done.changes
+-- a call but a power-up of a part that cannot be worked
+pub turned_away : {w : Whole} {r : Refusal} (c : Call) → Lawful w.kind.facts → Ready w (Err r) → is_power_up c ≡ false → Served c w (Err r) None w
+turned_away c law ready other = refused_serves law (ready.0 c (λ e. let z : true ≡ false = sym (ap is_power_up e) ∙ other in cc))

@@ -5,24 +5,24 @@ use Rattle.refusal.specs.declared.Refusal.TheVariants.{Dead, PowerOff}
 use Rattle.cells.specs.Images.{Images}
 use Rattle.cells.specs.Laws.{Site}
 use Rattle.dialect.specs.Facts.{Facts}
+use Rattle.part.specs.declared.answer.Answer.{Answer}
+use Rattle.part.specs.declared.Awake.{Awake}
 use Rattle.rules.specs.declared.Activity.{Activity}
 use Rattle.rules.specs.declared.Power.TheVariants.{Off, On}
 use Rattle.rules.specs.declared.Call.{Call}
 use Rattle.rules.specs.declared.Call.TheVariants.{PowerUp}
-use Rattle.rules.specs.Kind.{Kind}
-use Rattle.rules.specs.State.{State}
 use Rattle.rules.specs.Step.{Out, step, refusing, on_call, on_power_up}
-use Rattle.rules.specs.Machine.{driven}
+use Rattle.rules.specs.Machine.{Changes, driven}
 use Rattle.selection.specs.declared.control.Control.{Control}
-use Rattle.selection.specs.declared.phase.Selection.{Selection}
-use Rattle.selection.specs.View.{kind_of, state_of, selection_of, Done}
+use Rattle.selection.specs.declared.phase.Phase.{Phase}
+use Rattle.selection.specs.View.{kind_of, state_of, selection_of}
 use Rattle.rules.specs.History.{calls_of, Throughout}
 use Rattle.rules.specs.Machine.{Moment}
 use Rattle.promises.specs.Promises.{Promises}
 use Rattle.promises.specs.Served.{Whole, Led, Served}
 
 -- the part as it stands
-abbrev pub whole_of : Facts → Bool → Site → Images → Control → Selection → Whole
+abbrev pub whole_of : Facts → Bool → Site → Images → Control → Option Phase → Whole
 whole_of f lasting site images control selection =
     record { kind = kind_of f lasting site; control = state_of control (selection_of selection); images = images }
 
@@ -36,20 +36,43 @@ abbrev pub drove : Result (Option ℕ) Refusal → Option ℕ
 drove (Ok d) = d
 drove (Err r) = None
 
--- Whether a part can be worked: on, with its activity and size, or refused: one that is off can be powered up, and a dead one
--- refuses every call.
-abbrev pub Ready : Kind → State → Result (Activity × ℕ) Refusal → Type 0
-Ready k s (Ok (y, size)) = ((c : Call) → step k s c ≡ on_call k s y c) × ((s.power ≡ On y) × ((size ≡ k.size) × (64 ≤ size)))
-Ready k s (Err r) =
-    ((c : Call) → (c ≢ PowerUp) → step k s c ≡ refusing s r)
-    × (((r ≡ PowerOff) × (step k s PowerUp ≡ on_power_up s Off)) ⊎ ((r ≡ Dead) × (step k s PowerUp ≡ refusing s r)))
+-- of the answer to any call, the pages still to go or the refusal
+abbrev pub told : Result Answer Refusal → Result ℕ Refusal
+told (Ok a) = Ok a.to_go
+told (Err r) = Err r
 
--- What a call came to is what the rules say: the state, the answer, the byte driven, and what was done to the cells.
-pub record Does (o : Out) (k : Kind) (i : Images) (at : Site) (s' : State) (r : Result ℕ Refusal) (d : Option ℕ) (i' : Images) (at' : Site) : Type 0 where
-  pub control : s' ≡ o.state
+-- of the answer to any call, the byte that it brings, if any
+abbrev pub brought : Result Answer Refusal → Option ℕ
+brought (Ok a) = a.driven
+brought (Err r) = None
+
+-- A part can be worked: it is alive and on, with this activity and size.
+pub record IsAwake (a : Awake) (w : Whole) : Type 0 where
+  pub steps : (c : Call) → step w.kind w.control c ≡ on_call w.kind w.control a.activity c
+  pub power : w.control.power ≡ On a.activity
+  pub size : a.size ≡ w.kind.size
+  pub not_small : 64 ≤ a.size
+
+-- Whether a part can be worked, or is refused: one that is off can be powered up, and a dead one refuses every call.
+abbrev pub Ready : Whole → Result Awake Refusal → Type 0
+Ready w (Ok a) = IsAwake a w
+Ready w (Err r) =
+    ((c : Call) → (c ≢ PowerUp) → step w.kind w.control c ≡ refusing w.control r)
+    × (((r ≡ PowerOff) × (step w.kind w.control PowerUp ≡ on_power_up w.control Off))
+    ⊎ ((r ≡ Dead) × (step w.kind w.control PowerUp ≡ refusing w.control r)))
+
+-- What a call came to is what the rules say: the control state, the answer, the byte driven, and what was done to both images.
+-- The kind is the same.
+pub record CameTo (o : Out) (w : Whole) (r : Result ℕ Refusal) (d : Option ℕ) (w' : Whole) : Type 0 where
+  pub kind : w'.kind ≡ w.kind
+  pub control : w'.control ≡ o.state
   pub answer : r ≡ o.answer
-  pub drove : d ≡ driven k i.working o.drive
-  pub done : Done k o.events i at i' at'
+  pub drove : d ≡ driven w.kind w.images.working o.drive
+  pub images : Changes w.kind o.events w.images w'.images
+
+-- so did a call of a part that is on, with this activity
+abbrev pub Does : Call → Activity → Whole → Result ℕ Refusal → Option ℕ → Whole → Type 0
+Does c activity w r d w' = CameTo (on_call w.kind w.control activity c) w r d w'
 
 -- a call was served, with some answer and some byte driven
 abbrev pub ServedSomehow : Call → Whole → Whole → Type 0

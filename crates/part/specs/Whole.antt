@@ -1,11 +1,9 @@
--- A part of the code as one value of the promises, for clauses of the crates above.
-use Rattle.std.specs.Prelude.{Bool}
-use Rattle.cells.specs.Images.{Images}
-use Rattle.cells.specs.Laws.{Site}
-use Rattle.dialect.specs.Facts.{Facts}
+-- A part of the code as one value of the promises, by what its dialect and its cells say of themselves.
+use Rattle.cells.specs.declared.Cells.{Ghosts as Cells}
+use Rattle.dialect.specs.declared.Dialect.{Ghosts as Dialect}
 use Rattle.promises.specs.Served.{Whole}
 use Rattle.part.specs.declared.Part.{Part}
 use Rattle.part.specs.View.{whole_of}
 
-abbrev pub whole : {D C : Type 0} → Facts → Bool → (C → Site) → (C → Images) → Part D C → Whole
-whole f lasting site images p = whole_of f lasting (site p.cells) (images p.cells) p.control p.selection
+abbrev pub whole : {D C : Type 0} → Dialect D → Cells C → Part D C → Whole
+whole d c p = whole_of d.facts c.lasting (c.site p.cells) (c.images p.cells) p.control p.selection

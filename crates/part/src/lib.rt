@@ -1,39 +1,57 @@
 // A part: one dialect above one cell array.
 #![tactic(auto)]
 
-ghost use Rattle.std.specs.Prelude.{◌≡◌, ◌+◌, ◌-◌, ◌*◌, ◌≤◌, cond, [], None, Ok};
-ghost use Rattle.rules.specs.declared.Call.TheVariants.{Select, Byte, Release, Tick, Cut, PowerUp};
-ghost use Rattle.rules.specs.declared.Power.TheVariants.{On};
-ghost use Rattle.rules.specs.Power.{keeps, saved, cut_events};
-ghost use Rattle.rules.specs.State.{unselected};
-ghost use Rattle.rules.specs.Step.{step};
+ghost use Rattle.std.specs.Prelude.{◌≡◌, []};
 ghost use Rattle.promises.specs.Served.{Led};
-ghost use Rattle.part.specs.View.{whole_of, answered, drove, Ready, Does};
-ghost use Rattle.selection.specs.View.{kind_of, state_of, selection_of, Done};
+ghost use Rattle.part.specs.View.{Ready};
+ghost use Rattle.part.specs.Whole.{whole};
 
 use cells::Cells;
 use dialect::Dialect;
 use refusal::Refusal;
 use rules::{Activity, Power};
-use selection::{Control, Selection};
+use selection::{Control, Phase};
 
+mod answer;
 mod calls;
 mod look;
 mod run;
 mod steps;
 
+pub use answer::Answer;
+
+// The call that sends a byte with the hold line not active. It is a macro because a constant may not call a function.
+#[macro_export]
+macro_rules! send {
+    ($value:expr) => {
+        rules::Call::Byte {
+            value: $value,
+            held: false,
+        }
+    };
+}
+
+// What a part is doing that can be worked, and the size of its cells.
+#[derive(Clone, Copy)]
+struct Awake {
+    activity: Activity,
+    size: u32,
+}
+
+// The clauses read a part as its `whole` (specs/Whole.antt). A Model would make none of them shorter: its value must keep the
+// cells, which `new`, `cells` and `into_cells` tell, and what the cells hold is known only from C's ghost members.
 pub struct Part<D: Dialect, C: Cells> {
     dialect: D,
     cells: C,
     control: Control,
-    selection: Selection,
+    selection: Option<Phase>,
 }
 
 impl<D: Dialect, C: Cells> Part<D, C> {
     // Makes a part: off, unselected, with no status bits, latch and marks clear. No byte of the cells changes.
     pub fn new(dialect: D, cells: C) -> Part<D, C>
         ensures cells { result.cells ≡ cells }
-        ensures made { Led (C.images cells) [] (whole_of D.facts C.lasting (C.site result.cells) (C.images result.cells) result.control result.selection) }
+        ensures made { Led (C.images cells) [] (whole D.Dialect C.Cells result) }
     {
         let control = Control {
             power: Power::Off,
@@ -46,13 +64,13 @@ impl<D: Dialect, C: Cells> Part<D, C> {
             dialect,
             cells,
             control,
-            selection: Selection::Unselected,
+            selection: None,
         }
     }
 
     // Whether the part can be worked now: a dead one is refused with 1, and one that is off with 2.
-    fn ready(&self) -> Result<(Activity, u32), Refusal>
-        ensures { Ready (kind_of D.facts C.lasting (C.site self.now.cells)) (state_of self.now.control (selection_of self.now.selection)) result }
+    fn ready(&self) -> Result<Awake, Refusal>
+        ensures { Ready (whole D.Dialect C.Cells self.now) result }
     {
         let size = self.cells.size();
         if !D::is_alive(size) {
@@ -60,29 +78,10 @@ impl<D: Dialect, C: Cells> Part<D, C> {
         }
         match self.control.power {
             Power::Off => Err(Refusal::PowerOff),
-            Power::On(activity) => Ok((activity, size as u32)),
-        }
-    }
-
-    // Powers the part up, unless it is dead or on.
-    fn wake(&mut self) -> Result<(), Refusal>
-        ensures control { (state_of self.new.control (selection_of self.new.selection)) ≡ (step (kind_of D.facts C.lasting (C.site self.old.cells)) (state_of self.old.control (selection_of self.old.selection)) PowerUp).state }
-        ensures answer { answered result ≡ (step (kind_of D.facts C.lasting (C.site self.old.cells)) (state_of self.old.control (selection_of self.old.selection)) PowerUp).answer }
-        ensures cells { self.new.cells ≡ self.old.cells }
-    {
-        match self.ready() {
-            Ok(_) => Err(Refusal::AlreadyOn),
-            Err(Refusal::PowerOff) => {
-                self.control = Control {
-                    power: Power::On(Activity::Waking(0)),
-                    status_bits: self.control.status_bits,
-                    latch: false,
-                    failed: false,
-                    written: false,
-                };
-                Ok(())
-            }
-            Err(refusal) => Err(refusal),
+            Power::On(activity) => Ok(Awake {
+                activity,
+                size: size as u32,
+            }),
         }
     }
 }

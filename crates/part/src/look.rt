@@ -27,10 +27,7 @@ impl<D: Dialect, C: Cells> Part<D, C> {
     pub fn is_idle(&self) -> bool
         ensures { Decides result (self.now.control.power ≡ On Idle) }
     {
-        match self.control.power {
-            Power::On(Activity::Idle) => true,
-            _ => false,
-        }
+        self.control.power == Power::On(Activity::Idle)
     }
 
     // Takes the part apart and gives its cells back, as they are.

@@ -1,28 +1,39 @@
 // What each call does to a part that is on: the answer, the control and the cells, as the rules have it.
-ghost use Rattle.std.specs.Prelude.{◌≡◌, ◌+◌, ◌-◌, ◌*◌, ◌≤◌, [], if◌then◌else◌, None, Ok, nat_lt};
-ghost use Rattle.rules.specs.declared.Call.TheVariants.{Select, Byte, Release, Tick, Cut, PowerUp};
-ghost use Rattle.rules.specs.declared.Power.TheVariants.{On};
+ghost use Rattle.std.specs.Prelude.{◌≡◌, ◌+◌, ◌-◌, ◌/◌, ◌<◌, ◌≤◌, [], if◌then◌else◌, None, Ok, nat_lt};
+ghost use Rattle.cells.specs.Laws.{size_of};
+ghost use Rattle.rules.specs.declared.Call.TheVariants.{Select, Byte, Release, Tick, Cut};
+ghost use Rattle.rules.specs.declared.Activity.{Activity};
+ghost use Rattle.rules.specs.declared.Activity.TheVariants.{Idle};
 ghost use Rattle.rules.specs.Power.{keeps, saved, cut_events};
 ghost use Rattle.rules.specs.State.{unselected};
-ghost use Rattle.rules.specs.Step.{on_select, on_byte, on_release, on_tick, on_cut};
-ghost use Rattle.part.specs.View.{whole_of, answered, drove, Ready, Does};
-ghost use Rattle.selection.specs.View.{kind_of, state_of, selection_of, Done};
+ghost use Rattle.part.specs.View.{answered, drove, IsAwake, Does};
+ghost use Rattle.part.specs.Whole.{whole};
+ghost use Rattle.selection.specs.View.{kind, state_of, DoneTo};
 
-use super::Part;
+use super::{Awake, Part};
 use cells::Cells;
 use dialect::Dialect;
 use refusal::Refusal;
 use rules::{Activity, Power};
-use selection::{Control, Heard, Phase, Selection};
+use selection::{Control, Heard, Phase};
+
+impl Awake {
+    // The pages of its cells.
+    fn pages(self) -> u32
+        ensures { result ≡ self.size / 64 }
+    {
+        self.size / 64
+    }
+}
 
 impl<D: Dialect, C: Cells> Part<D, C> {
     pub(super) fn begin(&mut self) -> Result<(), Refusal>
-        ensures { Does (on_select (state_of self.old.control (selection_of self.old.selection)) (selection_of self.old.selection)) (kind_of D.facts C.lasting (C.site self.old.cells)) (C.images self.old.cells) (C.site self.old.cells) (state_of self.new.control (selection_of self.new.selection)) (answered result) (None) (C.images self.new.cells) (C.site self.new.cells) }
+        ensures { (activity : Activity) → Does Select activity (whole D.Dialect C.Cells self.old) (answered result) (None) (whole D.Dialect C.Cells self.new) }
     {
         match self.selection {
-            Selection::Selected(_) => Err(Refusal::AlreadySelected),
-            Selection::Unselected => {
-                self.selection = Selection::Selected(Phase::Opcode);
+            Some(_) => Err(Refusal::AlreadySelected),
+            None => {
+                self.selection = Some(Phase::Opcode);
                 Ok(())
             }
         }
@@ -30,37 +41,36 @@ impl<D: Dialect, C: Cells> Part<D, C> {
 
     pub(super) fn hear(
         &mut self,
-        activity: Activity,
-        size: u32,
+        awake: Awake,
         value: u8,
         held: bool,
     ) -> Result<Option<u8>, Refusal>
-        requires { (size ≡ 64 * (C.site self.old.cells).pages) × (64 ≤ size) }
-        ensures { Does (on_byte (kind_of D.facts C.lasting (C.site self.old.cells)) (state_of self.old.control (selection_of self.old.selection)) activity (selection_of self.old.selection) value held) (kind_of D.facts C.lasting (C.site self.old.cells)) (C.images self.old.cells) (C.site self.old.cells) (state_of self.new.control (selection_of self.new.selection)) (answered result) (drove result) (C.images self.new.cells) (C.site self.new.cells) }
+        requires { IsAwake awake (whole D.Dialect C.Cells self.old) }
+        ensures { Does (Byte value held) awake.activity (whole D.Dialect C.Cells self.old) (answered result) (drove result) (whole D.Dialect C.Cells self.new) }
     {
         match &mut self.selection {
-            Selection::Unselected => Err(Refusal::NotSelected),
-            Selection::Selected(_) if held => Ok(None),
-            Selection::Selected(phase) => {
+            None => Err(Refusal::NotSelected),
+            Some(_) if held => Ok(None),
+            Some(phase) => {
                 let Heard { driven, wrote } = selection::hear::<D, C>(
                     &self.control,
-                    activity,
+                    awake.activity,
                     phase,
                     &mut self.cells,
-                    size,
+                    awake.size,
                     value,
                 );
-                self.control.written = wrote | self.control.written;
+                self.control.written |= wrote;
                 Ok(driven)
             }
         }
     }
 
-    pub(super) fn finish(&mut self, size: u32, clocks: u8) -> Result<(), Refusal>
-        requires { (size ≡ 64 * (C.site self.old.cells).pages) × (64 ≤ size) }
-        ensures { Does (on_release (kind_of D.facts C.lasting (C.site self.old.cells)) (state_of self.old.control (selection_of self.old.selection)) (selection_of self.old.selection) clocks) (kind_of D.facts C.lasting (C.site self.old.cells)) (C.images self.old.cells) (C.site self.old.cells) (state_of self.new.control (selection_of self.new.selection)) (answered result) (None) (C.images self.new.cells) (C.site self.new.cells) }
+    pub(super) fn finish(&mut self, awake: Awake, clocks: u8) -> Result<(), Refusal>
+        requires { IsAwake awake (whole D.Dialect C.Cells self.old) }
+        ensures { Does (Release clocks) awake.activity (whole D.Dialect C.Cells self.old) (answered result) (None) (whole D.Dialect C.Cells self.new) }
     {
-        let Selection::Selected(phase) = &self.selection else {
+        let Some(phase) = &self.selection else {
             return Err(Refusal::NotSelected);
         };
         if clocks > 7 {
@@ -70,58 +80,44 @@ impl<D: Dialect, C: Cells> Part<D, C> {
             &mut self.control,
             phase,
             &mut self.cells,
-            size,
+            awake.size,
             clocks,
         );
-        self.selection = Selection::Unselected;
+        self.selection = None;
         answer
     }
 
-    pub(super) fn advance(&mut self, activity: Activity, size: u32) -> u32
-        requires { (size ≡ 64 * (C.site self.old.cells).pages) × (self.old.control.power ≡ On activity) }
-        ensures { Does (on_tick (kind_of D.facts C.lasting (C.site self.old.cells)) (state_of self.old.control (selection_of self.old.selection)) activity) (kind_of D.facts C.lasting (C.site self.old.cells)) (C.images self.old.cells) (C.site self.old.cells) (state_of self.new.control (selection_of self.new.selection)) (Ok result) (None) (C.images self.new.cells) (C.site self.new.cells) }
+    pub(super) fn advance(&mut self, awake: Awake) -> u32
+        requires { IsAwake awake (whole D.Dialect C.Cells self.old) }
+        ensures { Does Tick awake.activity (whole D.Dialect C.Cells self.old) (Ok result) (None) (whole D.Dialect C.Cells self.new) }
     {
-        let pages = size / 64;
-        match activity {
-            Activity::Idle => 0,
+        let pages = awake.pages();
+        let (page, next) = match awake.activity {
+            Activity::Idle => return 0,
             Activity::Storing(page) => {
                 let _ = self.cells.keep(page as usize);
-                let more = is_more(page, pages);
-                self.control.power = Power::On(if more {
-                    Activity::Storing(page + 1)
-                } else {
-                    Activity::Idle
-                });
-                self.control.written = more & self.control.written;
-                to_go(page, pages)
+                self.control.written &= is_more(page, pages);
+                (page, onward(Activity::Storing, page, pages))
             }
             Activity::Recalling(page) => {
                 let _ = self.cells.recall(page as usize);
-                self.control.power = Power::On(if is_more(page, pages) {
-                    Activity::Recalling(page + 1)
-                } else {
-                    Activity::Idle
-                });
-                to_go(page, pages)
+                (page, onward(Activity::Recalling, page, pages))
             }
             Activity::Waking(page) => {
                 let _ = self.cells.recall(page as usize);
-                self.control.power = Power::On(if is_more(page, pages) {
-                    Activity::Waking(page + 1)
-                } else {
-                    Activity::Idle
-                });
-                to_go(page, pages)
+                (page, onward(Activity::Waking, page, pages))
             }
-        }
+        };
+        self.control.power = Power::On(next);
+        to_go(page, pages)
     }
 
-    pub(super) fn lose_power(&mut self, activity: Activity, size: u32, charged: bool)
-        requires { size ≡ 64 * (C.site self.old.cells).pages }
-        ensures { Does (on_cut (kind_of D.facts C.lasting (C.site self.old.cells)) (state_of self.old.control (selection_of self.old.selection)) activity charged) (kind_of D.facts C.lasting (C.site self.old.cells)) (C.images self.old.cells) (C.site self.old.cells) (state_of self.new.control (selection_of self.new.selection)) (Ok 0) (None) (C.images self.new.cells) (C.site self.new.cells) }
+    pub(super) fn lose_power(&mut self, awake: Awake, charged: bool)
+        requires { IsAwake awake (whole D.Dialect C.Cells self.old) }
+        ensures { Does (Cut charged) awake.activity (whole D.Dialect C.Cells self.old) (Ok 0) (None) (whole D.Dialect C.Cells self.new) }
     {
-        drain::<D, C>(&mut self.cells, &self.control, activity, size / 64, charged);
-        self.selection = Selection::Unselected;
+        drain::<D, C>(&mut self.cells, &self.control, awake, charged);
+        self.selection = None;
         self.control.power = Power::Off;
     }
 }
@@ -129,7 +125,7 @@ impl<D: Dialect, C: Cells> Part<D, C> {
 // Keeps the pages from one on, lowest first.
 fn keep_from<D: Dialect, C: Cells>(cells: &mut C, from: u32, pages: u32)
     requires { pages ≡ (C.site cells.old).pages }
-    ensures { Done (kind_of D.facts C.lasting (C.site cells.old)) (keeps from (pages - from)) (C.images cells.old) (C.site cells.old) (C.images cells.new) (C.site cells.new) }
+    ensures { DoneTo D.facts C.Cells cells.old (keeps from (pages - from)) cells.new }
 {
     for page in from..pages {
         let _ = cells.keep(page as usize);
@@ -138,39 +134,28 @@ fn keep_from<D: Dialect, C: Cells>(cells: &mut C, from: u32, pages: u32)
 
 // What a cut keeps, if it is charged: while storing every page still to go; while idle all pages, if something was written
 // and PowerStore is on; else nothing.
-fn save<D: Dialect, C: Cells>(
-    cells: &mut C,
-    control: &Control,
-    activity: Activity,
-    pages: u32,
-    charged: bool,
-)
-    requires { pages ≡ (C.site cells.old).pages }
-    ensures { Done (kind_of D.facts C.lasting (C.site cells.old)) (if charged then saved (kind_of D.facts C.lasting (C.site cells.old)) (state_of control.now unselected) activity else []) (C.images cells.old) (C.site cells.old) (C.images cells.new) (C.site cells.new) }
+fn save<D: Dialect, C: Cells>(cells: &mut C, control: &Control, awake: Awake, charged: bool)
+    requires { awake.size ≡ size_of (C.site cells.old) }
+    ensures { DoneTo D.facts C.Cells cells.old (if charged then saved (kind D.facts C.Cells cells.old) (state_of control.now unselected) awake.activity else []) cells.new }
 {
-    match activity {
-        _ if !charged => {}
-        Activity::Idle if control.written && D::power_store(control.status_bits) => keep_from::<
-            D,
-            C,
-        >(cells, 0, pages),
-        Activity::Storing(page) => keep_from::<D, C>(cells, page, pages),
+    if !charged {
+        return;
+    }
+    match awake.activity {
+        Activity::Idle if control.written && D::power_store(control.status_bits) => {
+            keep_from::<D, C>(cells, 0, awake.pages())
+        }
+        Activity::Storing(page) => keep_from::<D, C>(cells, page, awake.pages()),
         _ => {}
     }
 }
 
 // Keeps what the cut keeps, and lets the cells fade.
-fn drain<D: Dialect, C: Cells>(
-    cells: &mut C,
-    control: &Control,
-    activity: Activity,
-    pages: u32,
-    charged: bool,
-)
-    requires { pages ≡ (C.site cells.old).pages }
-    ensures { Done (kind_of D.facts C.lasting (C.site cells.old)) (cut_events (kind_of D.facts C.lasting (C.site cells.old)) (state_of control.now unselected) activity charged) (C.images cells.old) (C.site cells.old) (C.images cells.new) (C.site cells.new) }
+fn drain<D: Dialect, C: Cells>(cells: &mut C, control: &Control, awake: Awake, charged: bool)
+    requires { awake.size ≡ size_of (C.site cells.old) }
+    ensures { DoneTo D.facts C.Cells cells.old (cut_events (kind D.facts C.Cells cells.old) (state_of control.now unselected) awake.activity charged) cells.new }
 {
-    save::<D, C>(cells, control, activity, pages, charged);
+    save::<D, C>(cells, control, awake, charged);
     cells.fade();
 }
 
@@ -178,12 +163,25 @@ fn drain<D: Dialect, C: Cells>(
 fn is_more(page: u32, pages: u32) -> bool
     ensures { result ≡ nat_lt (page + 1) pages }
 {
-    (page as u64 + 1) < pages as u64
+    to_go(page, pages) > 0
 }
 
 // How many pages come behind this one.
 fn to_go(page: u32, pages: u32) -> u32
     ensures { result ≡ pages - (page + 1) }
 {
-    if page < pages { pages - page - 1 } else { 0 }
+    pages.saturating_sub(page).saturating_sub(1)
+}
+
+// The activity behind a page: the same at the next page, or idle behind the last.
+fn onward<F: Fn(u32) -> Activity>(activity: F, page: u32, pages: u32) -> Activity
+    requires { F.IsAlwaysCallable activity }
+    ensures more { page + 1 < pages → F.post activity (page + 1) result }
+    ensures last { pages ≤ page + 1 → result ≡ Idle }
+{
+    if is_more(page, pages) {
+        activity(page + 1)
+    } else {
+        Activity::Idle
+    }
 }

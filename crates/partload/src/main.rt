@@ -15,7 +15,7 @@ use std::env;
 
 const SIZE: u32 = 32768;
 
-const PAGES: u32 = 512;
+const PAGES: u16 = 512;
 
 // A part, where the made-up numbers have come to, and the number that all answers and driven bytes go into.
 struct Load<'a> {
@@ -25,64 +25,52 @@ struct Load<'a> {
 }
 
 impl<'a> Load<'a> {
-    // The next made-up number, of 16 bits.
-    fn draw(&mut self) -> u32 {
+    // The next made-up number.
+    fn draw(&mut self) -> u16 {
         self.seed = self.seed.wrapping_mul(1664525).wrapping_add(1013904223);
-        self.seed / 65536
+        (self.seed >> 16) as u16
     }
 
     fn draw_byte(&mut self) -> u8 {
-        (self.draw() & 255) as u8
+        let [_, low] = self.draw().to_be_bytes();
+        low
     }
 
     // Whether a thing that happens once in so many times happens now.
-    fn once_in(&mut self, times: u32) -> bool {
-        times != 0 && self.draw() % times == 0
+    fn once_in(&mut self, times: u16) -> bool {
+        self.draw().checked_rem(times) == Some(0)
     }
 
-    fn note(&mut self, value: u32) {
+    // Notes what a call came to: a number, or the number of its refusal. Each call goes by its own method, since by
+    // `Part::make` the traffic takes 5 percent longer.
+    fn note(&mut self, answer: Result<u32, Refusal>) {
+        let value = answer.unwrap_or_else(|refusal| u32::from(refusal.number()));
         self.total = self.total.wrapping_mul(16777619).wrapping_add(value);
-    }
-
-    // Done is 0, a refusal its number.
-    fn note_answer(&mut self, answer: Result<(), Refusal>) {
-        let value = match answer {
-            Ok(()) => 0,
-            Err(refusal) => u32::from(refusal.number()),
-        };
-        self.note(value);
     }
 
     // A driven byte is 256 and more, no driven byte is 0.
     fn send(&mut self, value: u8, held: bool) {
-        let value = match self.part.byte(value, held) {
-            Ok(Some(driven)) => 256 + u32::from(driven),
-            Ok(None) => 0,
-            Err(refusal) => u32::from(refusal.number()),
-        };
-        self.note(value);
+        let answer = self.part.byte(value, held);
+        self.note(answer.map(|driven| driven.map_or(0, |byte| 256 + u32::from(byte))));
     }
 
     // Selects, and sends an opcode.
     fn open(&mut self, opcode: u8) {
         let answer = self.part.select();
-        self.note_answer(answer);
+        self.note(answer.map(|()| 0));
         self.send(opcode, false);
     }
 
     fn close(&mut self, clocks: u8) {
         let answer = self.part.release(clocks);
-        self.note_answer(answer);
+        self.note(answer.map(|()| 0));
     }
 
     // Waits for so many pages. The pages to go are noted.
-    fn wait(&mut self, pages: u32) {
+    fn wait(&mut self, pages: u16) {
         for _ in 0..pages {
-            let value = match self.part.tick() {
-                Ok(to_go) => to_go,
-                Err(refusal) => u32::from(refusal.number()),
-            };
-            self.note(value);
+            let answer = self.part.tick();
+            self.note(answer);
         }
     }
 
@@ -97,9 +85,10 @@ impl<'a> Load<'a> {
         self.close(0);
     }
 
-    fn send_address(&mut self, address: u32) {
-        self.send((address / 256 % 256) as u8, false);
-        self.send((address % 256) as u8, false);
+    fn send_number(&mut self, number: u16) {
+        for byte in number.to_be_bytes() {
+            self.send(byte, false);
+        }
     }
 
     // A write of 72 bytes, not yet released. A byte under hold comes before them.
@@ -107,7 +96,7 @@ impl<'a> Load<'a> {
         self.command(0x06);
         self.open(0x02);
         let address = self.draw();
-        self.send_address(address);
+        self.send_number(address);
         self.send(0xAA, true);
         for _ in 0..72 {
             let value = self.draw_byte();
@@ -119,7 +108,7 @@ impl<'a> Load<'a> {
     fn read(&mut self, opcode: u8, count: u32) {
         self.open(opcode);
         let address = self.draw();
-        self.send_address(address);
+        self.send_number(address);
         for _ in 0..count {
             self.send(0, false);
         }
@@ -130,15 +119,15 @@ impl<'a> Load<'a> {
     fn write_frame(&mut self) {
         let address = self.draw();
         let value = self.draw_byte();
-        let damage = if self.once_in(4) { 1 } else { 0 };
-        let sum = crc::page_sum(AddressBytes::Two, SIZE, address, &[value; 64]) ^ damage;
+        let damage = u16::from(self.once_in(4));
+        let sum = crc::page_sum(AddressBytes::Two, SIZE, u32::from(address), &[value; 64]) ^ damage;
         self.command(0x06);
         self.open(0x12);
-        self.send_address(address);
+        self.send_number(address);
         for _ in 0..64 {
             self.send(value, false);
         }
-        self.send_address(u32::from(sum));
+        self.send_number(sum);
         self.close(0);
     }
 
@@ -169,14 +158,14 @@ impl<'a> Load<'a> {
 
     fn wake(&mut self) {
         let answer = self.part.power_up();
-        self.note_answer(answer);
+        self.note(answer.map(|()| 0));
         self.wait_long();
     }
 
     fn cut(&mut self) {
         let charged = self.once_in(2);
         let answer = self.part.cut(charged);
-        self.note_answer(answer);
+        self.note(answer.map(|()| 0));
         self.command(0x05);
         self.wake();
     }

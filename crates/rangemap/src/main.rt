@@ -7,13 +7,13 @@ use dialect::{Dialect, Mr, Nv};
 use std::{env, io};
 
 // One row. The laws of the range say that the subtraction does not wrap.
-fn print_row<D: Dialect>(rt: &HostRuntime, lead: u8, size: usize) -> io::Result<()>
+fn print_row<D: Dialect>(rt: &impl Print, lead: u8, size: usize) -> io::Result<()>
     requires { (Within D.facts lead) × (Alive D.facts size) }
 {
     let (first, end) = D::protected(lead, size);
     let bytes = end - first;
     print!(rt; "{first:>8}{end:>8}{bytes:>8} ")?;
-    for status_bits in lead..=255u8 {
+    for status_bits in lead..=u8::MAX {
         if ranges::shares_row::<D>(lead, status_bits, size) {
             print!(rt; " {status_bits:02X}h")?;
         }
@@ -21,15 +21,15 @@ fn print_row<D: Dialect>(rt: &HostRuntime, lead: u8, size: usize) -> io::Result<
     println!(rt; "")
 }
 
-fn print_table<D: Dialect>(rt: &HostRuntime, name: &str, size: usize) -> io::Result<()> {
-    let largest = D::largest_size();
+fn print_table<D: Dialect>(rt: &impl Print, name: &str, size: usize) -> io::Result<()> {
+    let largest = D::LARGEST;
     if !D::is_alive(size) {
         return println!(rt;
             "{name} at {size} bytes: dead, being no power of two from 256 to {largest}"
         );
     }
     println!(rt; "{name} at {size} bytes\n   first     end   bytes  status bits")?;
-    for lead in 0..=255u8 {
+    for lead in 0..=u8::MAX {
         if ranges::opens_row::<D>(lead, size) {
             print_row::<D>(rt, lead, size)?;
         }
@@ -37,7 +37,7 @@ fn print_table<D: Dialect>(rt: &HostRuntime, name: &str, size: usize) -> io::Res
     Ok(())
 }
 
-fn print_tables(rt: &HostRuntime, word: &str) -> io::Result<()> {
+fn print_tables(rt: &impl Print, word: &str) -> io::Result<()> {
     let Ok(size) = word.parse::<usize>() else {
         return println!(rt; "{word}: no size");
     };

@@ -10,23 +10,14 @@ use dialect::Dialect;
 pub fn shares_row<D: Dialect>(lead: u8, status_bits: u8, size: usize) -> bool
     ensures { Decides result (Shares D.facts size lead status_bits) }
 {
-    let mask = D::mask();
-    let (first, end) = D::protected(status_bits, size);
-    let (lead_first, lead_end) = D::protected(lead, size);
-    status_bits & mask == status_bits && first == lead_first && end == lead_end
+    status_bits & D::mask() == status_bits
+        && D::protected(status_bits, size) == D::protected(lead, size)
 }
 
 // Whether `status_bits` are the smallest within the mask that protect their range.
 pub fn opens_row<D: Dialect>(status_bits: u8, size: usize) -> bool
     ensures { Decides result (Opens D.facts size status_bits) }
 {
-    if status_bits & D::mask() != status_bits {
-        return false;
-    }
-    for smaller in 0..status_bits {
-        if shares_row::<D>(status_bits, smaller, size) {
-            return false;
-        }
-    }
-    true
+    status_bits & D::mask() == status_bits
+        && !(0..status_bits).any(|smaller| shares_row::<D>(status_bits, smaller, size))
 }

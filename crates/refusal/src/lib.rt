@@ -1,43 +1,47 @@
 //! Why a call was turned away. All layers share this one enum, and each case has a number, under which docs and programs tell it.
 #![tactic(auto)]
 
-ghost use Rattle.std.specs.Prelude.{◌≡◌};
+ghost use Rattle.std.specs.Prelude.{◌≡◌, ◌++◌, Some, codes};
+ghost use Rattle.std.specs.Fmt.{decimal};
 ghost use Rattle.refusal.specs.Numbers.{number_of};
+
+use std::error::Error;
+use std::fmt;
 
 #[derive(Clone, Copy, PartialEq, Eq, Debug)]
 pub enum Refusal {
     /// The part is dead: its array's size is no power of two from 256 to the dialect's largest.
-    Dead,
+    Dead = 1,
     /// Power is off.
-    PowerOff,
+    PowerOff = 2,
     /// The part is selected already.
-    AlreadySelected,
+    AlreadySelected = 3,
     /// The part is not selected.
-    NotSelected,
+    NotSelected = 4,
     /// More than 7 clocks are left over.
-    TooManyClocks,
+    TooManyClocks = 5,
     /// Power is on already.
-    AlreadyOn,
+    AlreadyOn = 6,
     /// No unheld byte came in the selection.
-    NoByte,
+    NoByte = 10,
     /// The part was waking, or it was storing or recalling and the opcode was not that of read status.
-    Busy,
+    Busy = 11,
     /// The opcode names no instruction.
-    UnknownOpcode,
+    UnknownOpcode = 12,
     /// The instruction writes, and the latch was clear.
-    NotEnabled,
+    NotEnabled = 13,
     /// Some data fell in the protected range.
-    Protected,
+    Protected = 14,
     /// Too few or too many bytes came for the instruction.
-    WrongLength,
+    WrongLength = 15,
     /// Clocks were left over behind the last whole byte.
-    LeftoverClocks,
+    LeftoverClocks = 16,
     /// The sum of a secure frame does not fit.
-    WrongSum,
+    WrongSum = 17,
     /// The address is not below the cell array's size.
-    AddressPastEnd,
+    AddressPastEnd = 41,
     /// The page is not below the cell array's number of pages.
-    PagePastEnd,
+    PagePastEnd = 42,
 }
 
 impl Refusal {
@@ -45,23 +49,17 @@ impl Refusal {
     pub fn number(self) -> u8
         ensures { result ≡ number_of self }
     {
-        match self {
-            Refusal::Dead => 1,
-            Refusal::PowerOff => 2,
-            Refusal::AlreadySelected => 3,
-            Refusal::NotSelected => 4,
-            Refusal::TooManyClocks => 5,
-            Refusal::AlreadyOn => 6,
-            Refusal::NoByte => 10,
-            Refusal::Busy => 11,
-            Refusal::UnknownOpcode => 12,
-            Refusal::NotEnabled => 13,
-            Refusal::Protected => 14,
-            Refusal::WrongLength => 15,
-            Refusal::LeftoverClocks => 16,
-            Refusal::WrongSum => 17,
-            Refusal::AddressPastEnd => 41,
-            Refusal::PagePastEnd => 42,
-        }
+        self as u8
     }
 }
+
+// As programs print it: by its number.
+impl fmt::Display for Refusal {
+    ghost output = { λ refusal. Some (codes "refused with " ++ decimal (number_of refusal)) };
+
+    fn fmt<W: fmt::Write>(&self, f: &mut fmt::Formatter<W>) -> fmt::Result {
+        write!(f, "refused with {}", self.number())
+    }
+}
+
+impl Error for Refusal {}

@@ -7,7 +7,7 @@ use Rattle.rules.specs.Kind.{Kind}
 use Rattle.rules.specs.State.{State}
 use Rattle.rules.specs.Step.{step}
 use Rattle.promises.specs.Served.{Whole, Served}
-use Rattle.replay.specs.Ran.{if_done, ticks_until_refused, Made, TickedOn}
+use Rattle.replay.specs.Ran.{if_done, ticks_until_refused, Made}
 use Rattle.replay.proofs.Turns.{none_yet, one_more}
 
 -- i of n ticks were done
@@ -25,7 +25,7 @@ tick_done {w} {w'} {t} {d} m served =
     ap (λ (a : Result ℕ Refusal). Tick ∷ if_done a (ticks_until_refused w.kind (step w.kind w.control Tick).state m)) (sym served.obeys.answer)
     ∙ ap₂ (λ (k : Kind) (s : State). Tick ∷ ticks_until_refused k s m) (sym served.kind) (sym served.control)
 
-one_ticked : {n i t u : ℕ} {w w' w'' : Whole} {d : Option ℕ} → i < n → Ticked n i w t w' → Served Tick w' (Ok u) d w'' → Ticked n (i + 1) w u w''
+pub one_ticked : {n i t u : ℕ} {w w' w'' : Whole} {d : Option ℕ} → i < n → Ticked n i w t w' → Served Tick w' (Ok u) d w'' → Ticked n (i + 1) w u w''
 one_ticked {n} {i} {t} {u} {w} {w'} {w''} {d} lt before served = record {
   calls = before.calls ++ (Tick ∷ []);
   so_far = one_more before.so_far served;
@@ -49,26 +49,17 @@ done_calls {n} {i} {t} {w} {w'} past before =
     let none : n - i ≡ 0 = omega arith in
     sym (ap (λ m. before.calls ++ ticks_until_refused w'.kind w'.control m) none ∙ append-nil before.calls) ∙ before.rest
 
--- i ticks of n were made, or fewer up to one that was refused
-abbrev pub TickedTo : ℕ → ℕ → Whole → Result ℕ Refusal → Whole → Type 0
-TickedTo n i w (Ok t) w' = Ticked n i w t w'
-TickedTo n i w (Err r) w' = Made (ticks_until_refused w.kind w.control n) w [] (Err r) w'
-
-pub none_ticked : (n : ℕ) (w : Whole) → TickedTo n 0 w (Ok 0) w
+pub none_ticked : (n : ℕ) (w : Whole) → Ticked n 0 w 0 w
 none_ticked n w = record {
   calls = [];
   so_far = none_yet w;
   rest = ap (ticks_until_refused w.kind w.control) (let e : n - 0 ≡ n = omega arith in e);
 }
 
-pub ticked_on : (n i : ℕ) (a b : Result ℕ Refusal) (w w' w'' : Whole) → i < n → TickedTo n i w a w' → TickedOn a w' b w'' → TickedTo n (i + 1) w b w''
-ticked_on n i (Ok t) (Ok u) w w' w'' lt before served = one_ticked lt before served
-ticked_on n i (Ok t) (Err r) w w' w'' lt before served =
+pub tick_refused : {n i t : ℕ} {r : Refusal} {w w' w'' : Whole} {d : Option ℕ} → i < n → Ticked n i w t w' → Served Tick w' (Err r) d w''
+    → Made (ticks_until_refused w.kind w.control n) w [] (Err r) w''
+tick_refused {r = r} {w = w} {w'' = w''} lt before served =
     subst (λ (l : List Call). Made l w [] (Err r) w'') (refused_calls lt before served) (one_more before.so_far served)
-ticked_on n i (Err r) b w w' w'' lt before (is, still) =
-    subst (λ (x : Result ℕ Refusal). TickedTo n (i + 1) w x w'') (sym is)
-    (subst (λ (v : Whole). Made (ticks_until_refused w.kind w.control n) w [] (Err r) v) (sym still) before)
 
-pub all_ticked : (n i : ℕ) (a : Result ℕ Refusal) (w w' : Whole) → n ≤ i → TickedTo n i w a w' → Made (ticks_until_refused w.kind w.control n) w [] a w'
-all_ticked n i (Ok t) w w' past before = subst (λ (l : List Call). Made l w [] (Ok t) w') (done_calls past before) before.so_far
-all_ticked n i (Err r) w w' past before = before
+pub all_ticked : {n i t : ℕ} {w w' : Whole} → n ≤ i → Ticked n i w t w' → Made (ticks_until_refused w.kind w.control n) w [] (Ok t) w'
+all_ticked {t = t} {w = w} {w' = w'} past before = subst (λ (l : List Call). Made l w [] (Ok t) w') (done_calls past before) before.so_far

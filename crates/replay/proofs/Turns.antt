@@ -10,8 +10,8 @@ use Rattle.rules.specs.declared.Call.TheVariants.{Select, Byte, Release, Tick, C
 use Rattle.rules.specs.Machine.{Moment}
 use Rattle.promises.specs.Served.{Whole, Led, Served, moment}
 use Rattle.promises.proofs.Whole.{promises_hold}
-use Rattle.runfile.specs.Letters.{Said, transfer, cut, hold, power_up}
-use Rattle.replay.specs.Ran.{if_done, calls_for, ServedInTurn, answer_behind, driven_at, driven_at_bytes, level_behind, Made, Ran}
+use Rattle.runfile.specs.Letters.{Said, transfer, hold}
+use Rattle.replay.specs.Ran.{if_done, calls_for, ServedInTurn, answer_behind, driven_at, driven_at_bytes, level_behind, Made, BenchState, Ran}
 
 pub none_yet : (w : Whole) → Made [] w [] (Ok 0) w
 none_yet w = record { moments = []; are = refl; served = refl; drove = refl; answers = refl }
@@ -64,15 +64,15 @@ turn_led (m ∷ ms) w w' first before (x, (served, (images, rest))) led =
     (turn_led ms x w' first (m ∷ before) rest now)
 
 -- a record was run, if its calls were made
-pub all_made : {calls : List Call} {w w' : Whole} {driven : List (Option ℕ)} {last : Result ℕ Refusal} (held : Bool) (s : Said) (held' : Bool)
-    → Lawful w'.kind.facts → Made calls w driven last w' → calls ≡ calls_for w.kind w.control held s → held' ≡ level_behind held s
-    → Ran held s w last driven held' w'
-all_made {calls} {w} {w'} {driven} {last} held s held' law made are level = record {
+pub all_made : {calls : List Call} {driven : List (Option ℕ)} {last : Result ℕ Refusal} (s : Said) (before after : BenchState)
+    → Lawful after.part.kind.facts → Made calls before.part driven last after.part
+    → calls ≡ calls_for before.part.kind before.part.control before.held s → after.held ≡ level_behind before.held s → Ran s before last driven after
+all_made {calls} {driven} {last} s before after law made are level = record {
   made = record { moments = made.moments; are = made.are ∙ are; served = made.served; drove = made.drove; answers = made.answers };
   level = level;
-  promises = λ first before led.
-      let led' = turn_led made.moments w w' first before made.served led in
-      (led', promises_hold w'.kind law first (reverse made.moments ++ before) led'.run);
+  promises = λ first earlier led.
+      let led' = turn_led made.moments before.part after.part first earlier made.served led in
+      (led', promises_hold after.part.kind law first (reverse made.moments ++ earlier) led'.run);
 }
 
 -- ---- calls behind calls
@@ -120,41 +120,28 @@ pub not_transferred : {w w' : Whole} {r : Refusal} {d : Option ℕ} (held : Bool
 not_transferred {w} {w'} {r} {d} held clocks bytes served =
     ap (λ (a : Result ℕ Refusal). Select ∷ if_done a (map (λ b. Byte b held) bytes ++ (Release clocks ∷ []))) served.obeys.answer
 
-pub transfer_run : {w w₁ w₂ w₃ : Whole} {n : ℕ} {d e : Option ℕ} {driven : List (Option ℕ)} {a : Result ℕ Refusal} (held : Bool) (clocks : ℕ) (bytes : List ℕ)
-    → Lawful w₃.kind.facts → Served Select w (Ok n) d w₁ → ((last : Result ℕ Refusal) × Made (map (λ b. Byte b held) bytes) w₁ driven last w₂)
-    → Served (Release clocks) w₂ a e w₃ → Ran held (transfer clocks bytes) w a driven held w₃
-transfer_run {w} {w₁} {w₂} {w₃} {n} {d} {e} {driven} {a} held clocks bytes law selected sent released =
-    all_made held (transfer clocks bytes) held law
-    (subst (λ (l : List (Option ℕ)). Made (Select ∷ (map (λ b. Byte b held) bytes ++ (Release clocks ∷ []))) w l a w₃) (append-nil driven)
-    (one_more (made_on (one_more (none_yet w) selected) sent.1) released))
-    (transferred held clocks bytes selected) refl
+pub transfer_run : {w₁ w₂ : Whole} {n : ℕ} {d e : Option ℕ} {driven : List (Option ℕ)} {a : Result ℕ Refusal} (clocks : ℕ) (bytes : List ℕ) (before after : BenchState)
+    → Lawful after.part.kind.facts → Served Select before.part (Ok n) d w₁
+    → ((last : Result ℕ Refusal) × Made (map (λ b. Byte b before.held) bytes) w₁ driven last w₂)
+    → Served (Release clocks) w₂ a e after.part → after.held ≡ before.held → Ran (transfer clocks bytes) before a driven after
+transfer_run {w₁} {w₂} {n} {d} {e} {driven} {a} clocks bytes before after law selected sent released level =
+    all_made (transfer clocks bytes) before after law
+    (subst (λ (l : List (Option ℕ)). Made (Select ∷ (map (λ b. Byte b before.held) bytes ++ (Release clocks ∷ []))) before.part l a after.part) (append-nil driven)
+    (one_more (made_on (one_more (none_yet before.part) selected) sent.1) released))
+    (transferred before.held clocks bytes selected) level
 
-pub refused_run : {w w₁ : Whole} {r : Refusal} {d : Option ℕ} {driven : List (Option ℕ)} {a : Result ℕ Refusal} (held : Bool) (clocks : ℕ) (bytes : List ℕ)
-    → Lawful w₁.kind.facts → Served Select w (Err r) d w₁ → a ≡ Err r → driven ≡ [] → Ran held (transfer clocks bytes) w a driven held w₁
-refused_run {w} {w₁} {r} {d} {driven} {a} held clocks bytes law refused is none =
-    subst (λ (x : Result ℕ Refusal). Ran held (transfer clocks bytes) w x driven held w₁) (sym is)
-    (subst (λ (l : List (Option ℕ)). Ran held (transfer clocks bytes) w (Err r) l held w₁) (sym none)
-    (all_made held (transfer clocks bytes) held law (one_more (none_yet w) refused) (not_transferred held clocks bytes refused) refl))
+pub refused_run : {r : Refusal} {d : Option ℕ} (clocks : ℕ) (bytes : List ℕ) (before after : BenchState)
+    → Lawful after.part.kind.facts → Served Select before.part (Err r) d after.part → after.held ≡ before.held → Ran (transfer clocks bytes) before (Err r) [] after
+refused_run {r} {d} clocks bytes before after law refused level =
+    all_made (transfer clocks bytes) before after law (one_more (none_yet before.part) refused) (not_transferred before.held clocks bytes refused) level
 
 -- records of one call or none
-call_run : {w w' : Whole} {c : Call} {a : Result ℕ Refusal} {d : Option ℕ} (held : Bool) (s : Said) → Lawful w'.kind.facts → Served c w a d w'
-    → c ∷ [] ≡ calls_for w.kind w.control held s → driven_at c d [] ≡ [] → held ≡ level_behind held s → Ran held s w a [] held w'
-call_run {w} {w'} {c} {a} {d} held s law served are silent level =
-    all_made held s held law (subst (λ (l : List (Option ℕ)). Made (c ∷ []) w l a w') silent (one_more (none_yet w) served)) are level
+pub call_run : {c : Call} {a : Result ℕ Refusal} {d : Option ℕ} (s : Said) (before after : BenchState) → Lawful after.part.kind.facts
+    → Served c before.part a d after.part → c ∷ [] ≡ calls_for before.part.kind before.part.control before.held s → driven_at c d [] ≡ []
+    → after.held ≡ level_behind before.held s → Ran s before a [] after
+call_run {c} {a} {d} s before after law served are silent level =
+    all_made s before after law (subst (λ (l : List (Option ℕ)). Made (c ∷ []) before.part l a after.part) silent (one_more (none_yet before.part) served)) are level
 
--- the same of what is equal to a record, and an empty buffer
-said_run : {s t : Said} {w w' : Whole} {a : Result ℕ Refusal} {driven : List (Option ℕ)} {held held' : Bool} → s ≡ t → driven ≡ [] → Ran held t w a [] held' w' → Ran held s w a driven held' w'
-said_run {s} {t} {w} {w'} {a} {driven} {held} {held'} is none ran =
-    subst (λ (x : Said). Ran held x w a driven held' w') (sym is) (subst (λ (l : List (Option ℕ)). Ran held t w a l held' w') (sym none) ran)
-
-pub cut_run : {w w' : Whole} {a : Result ℕ Refusal} {d : Option ℕ} {driven : List (Option ℕ)} (held charged : Bool) (s : Said) → s ≡ cut charged → driven ≡ []
-    → Lawful w'.kind.facts → Served (Cut charged) w a d w' → Ran held s w a driven held w'
-cut_run held charged s is none law served = said_run is none (call_run held (cut charged) law served refl refl refl)
-
-pub power_up_run : {w w' : Whole} {a : Result ℕ Refusal} {d : Option ℕ} {driven : List (Option ℕ)} (held : Bool) (s : Said) → s ≡ power_up → driven ≡ []
-    → Lawful w'.kind.facts → Served PowerUp w a d w' → Ran held s w a driven held w'
-power_up_run held s is none law served = said_run is none (call_run held power_up law served refl refl refl)
-
-pub hold_run : (w : Whole) {driven : List (Option ℕ)} (held level : Bool) (s : Said) → s ≡ hold level → driven ≡ [] → Lawful w.kind.facts
-    → Ran held s w (Ok 0) driven level w
-hold_run w held level s is none law = said_run is none (all_made held (hold level) level law (none_yet w) refl refl)
+pub hold_run : (level : Bool) (before after : BenchState) → Lawful after.part.kind.facts → after.part ≡ before.part → after.held ≡ level → Ran (hold level) before (Ok 0) [] after
+hold_run level before after law still is =
+    all_made (hold level) before after law (subst (Made [] before.part [] (Ok 0)) (sym still) (none_yet before.part)) refl is

@@ -1,7 +1,10 @@
 -- What running a record comes to: the calls that it stands for, served one after the other, and what they answered.
-use Rattle.std.specs.Prelude.{◌≡◌, ℕ, zero, suc, Bool, List, [], ◌∷◌, ◌++◌, map, reverse, length, None, Ok, Err, Option, Result}
+use Rattle.std.specs.Prelude.{◌≡◌, ℕ, zero, suc, ◌≤◌, Bool, List, [], ◌∷◌, ◌++◌, map, reverse, length, Vec, vec_items, vec_capacity, Ok, Err, Option, Result}
 use Rattle.refusal.specs.declared.Refusal.{Refusal}
 use Rattle.cells.specs.Images.{Images}
+use Rattle.cells.specs.declared.Cells.{Ghosts as Cells}
+use Rattle.dialect.specs.declared.Dialect.{Ghosts as Dialect}
+use Rattle.part.specs.Whole.{whole}
 use Rattle.rules.specs.declared.Call.{Call}
 use Rattle.rules.specs.declared.Call.TheVariants.{Select, Byte, Release, Tick, Cut, PowerUp}
 use Rattle.rules.specs.Kind.{Kind}
@@ -14,6 +17,20 @@ use Rattle.promises.specs.Served.{Whole, Led, Served}
 use Rattle.runfile.specs.declared.fault.RecordFault.{RecordFault}
 use Rattle.runfile.specs.declared.fault.RecordFault.TheVariants.{Refused}
 use Rattle.runfile.specs.Letters.{Said, transfer, ticks, cut, hold, power_up, said}
+use Rattle.replay.specs.declared.bench.Bench.{Bench}
+
+-- What records are run on, as the definitions have it: the hold level, and the part whole.
+pub record BenchState : Type 0 where
+  pub held : Bool
+  pub part : Whole
+
+-- a bench of the code, as it stands, by what its dialect and its cells say of themselves
+abbrev pub state_of : {D C : Type 0} → Dialect D → Cells C → Bench D C → BenchState
+state_of d c b = record { held = b.held; part = whole d c b.part }
+
+-- A buffer is empty, and has room for so many values.
+abbrev pub ClearedFor : {X A : Type 0} → ℕ → Vec X A → Type 0
+ClearedFor n buffer = (vec_items buffer ≡ []) × (n ≤ vec_capacity buffer)
 
 -- ---- the calls that a record stands for, in order
 
@@ -81,11 +98,11 @@ pub record Made (calls : List Call) (w : Whole) (driven : List (Option ℕ)) (la
 
 -- A record was run: the calls that it stands for were made, and the last one's answer is the result. Whatever led to the part
 -- before, everything promised holds at every moment of the run.
-pub record Ran (held : Bool) (s : Said) (w : Whole) (answer : Result ℕ Refusal) (driven : List (Option ℕ)) (held' : Bool) (w' : Whole) : Type 0 where
-  pub made : Made (calls_for w.kind w.control held s) w driven answer w'
-  pub level : held' ≡ level_behind held s
-  pub promises : (first : Images) (before : List Moment) → Led first before w
-      → Led first (reverse made.moments ++ before) w' × Throughout (Promises w'.kind first) (reverse made.moments ++ before)
+pub record Ran (s : Said) (before : BenchState) (answer : Result ℕ Refusal) (driven : List (Option ℕ)) (after : BenchState) : Type 0 where
+  pub made : Made (calls_for before.part.kind before.part.control before.held s) before.part driven answer after.part
+  pub level : after.held ≡ level_behind before.held s
+  pub promises : (first : Images) (earlier : List Moment) → Led first earlier before.part
+      → Led first (reverse made.moments ++ earlier) after.part × Throughout (Promises after.part.kind first) (reverse made.moments ++ earlier)
 
 -- a part's answer, as a record's
 abbrev pub of_record : Result ℕ Refusal → Result ℕ RecordFault
@@ -93,23 +110,17 @@ of_record (Ok n) = Ok n
 of_record (Err r) = Err (Refused r)
 
 -- A record with a fault of its own changes nothing and drives nothing.
-pub record Untouched (w : Whole) (driven : List (Option ℕ)) (held held' : Bool) (w' : Whole) : Type 0 where
-  pub part : w' ≡ w
-  pub level : held' ≡ held
+pub record Untouched (before : BenchState) (driven : List (Option ℕ)) (after : BenchState) : Type 0 where
+  pub same : after ≡ before
   pub drove : driven ≡ []
 
 -- The bytes of a record were run: what they say, or their fault.
-abbrev pub RanSaid : Result Said RecordFault → Bool → Whole → Result ℕ RecordFault → List (Option ℕ) → Bool → Whole → Type 0
-RanSaid (Ok s) held w answer driven held' w' = (r : Result ℕ Refusal) × ((answer ≡ of_record r) × Ran held s w r driven held' w')
-RanSaid (Err f) held w answer driven held' w' = (answer ≡ Err f) × Untouched w driven held held' w'
+abbrev pub RanSaid : Result Said RecordFault → BenchState → Result ℕ RecordFault → List (Option ℕ) → BenchState → Type 0
+RanSaid (Ok s) before outcome driven after = (r : Result ℕ Refusal) × ((outcome ≡ of_record r) × Ran s before r driven after)
+RanSaid (Err f) before outcome driven after = (outcome ≡ Err f) × Untouched before driven after
 
-abbrev pub RanRecord : Bool → List ℕ → Whole → Result ℕ RecordFault → List (Option ℕ) → Bool → Whole → Type 0
-RanRecord held bytes = RanSaid (said bytes) held
-
--- One tick more was made, unless one before was refused.
-abbrev pub TickedOn : Result ℕ Refusal → Whole → Result ℕ Refusal → Whole → Type 0
-TickedOn (Ok n) w answer w' = Served Tick w answer None w'
-TickedOn (Err r) w answer w' = (answer ≡ Err r) × (w' ≡ w)
+abbrev pub RanRecord : List ℕ → BenchState → Result ℕ RecordFault → List (Option ℕ) → BenchState → Type 0
+RanRecord bytes = RanSaid (said bytes)
 
 -- how many bytes a record sends
 abbrev pub bytes_sent : Said → ℕ

@@ -2,11 +2,9 @@
 ghost use Rattle.std.specs.Prelude.{◌≡◌, ℕ, ◌≤◌, true, false, [], length, is_ok, vec_capacity, Result, MatchResult};
 ghost use Rattle.refusal.specs.declared.Refusal.{Refusal as Refused};
 ghost use Rattle.part.specs.View.{answered};
-ghost use Rattle.part.specs.Whole.{whole};
 ghost use Rattle.runfile.specs.Seen.{said_by};
-ghost use Rattle.replay.specs.Ran.{Ran, RanRecord, of_record, bytes_sent, Untouched};
+ghost use Rattle.replay.specs.Ran.{state_of, ClearedFor, Ran, RanRecord, of_record, bytes_sent, Untouched};
 
-use super::record;
 use cells::Cells;
 use dialect::Dialect;
 use part::Part;
@@ -16,9 +14,9 @@ use std::alloc::{AllocError, Global};
 
 // A part, the hold level, and what was driven at each byte of the last record.
 pub struct Bench<D: Dialect, C: Cells> {
-    part: Part<D, C>,
-    held: bool,
-    driven: Vec<Option<u8>>,
+    pub(super) part: Part<D, C>,
+    pub(super) held: bool,
+    pub(super) driven: Vec<Option<u8>>,
 }
 
 // What came of a record: done, with the pages to go (0 but for ticks), or its fault.
@@ -61,7 +59,7 @@ impl<D: Dialect, C: Cells> Bench<D, C> {
     // buffer of an earlier record has less room than this record has bytes.
     pub fn run(&mut self, bytes: &[u8]) -> Result<Outcome, AllocError>
         ensures succeeds { length bytes.now ≤ vec_capacity self.old.driven → is_ok result ≡ true }
-        ensures ran { MatchResult result (λ outcome. RanRecord self.old.held bytes.now (whole D.facts C.lasting C.site C.images self.old.part) outcome self.new.driven.items self.new.held (whole D.facts C.lasting C.site C.images self.new.part)) (λ _. Untouched (whole D.facts C.lasting C.site C.images self.old.part) self.new.driven.items self.old.held self.new.held (whole D.facts C.lasting C.site C.images self.new.part)) }
+        ensures ran { let before = state_of D.Dialect C.Cells self.old in let after = state_of D.Dialect C.Cells self.new in MatchResult result (λ outcome. RanRecord bytes.now before outcome self.new.driven.items after) (λ _. Untouched before self.new.driven.items after) }
     {
         self.driven.clear();
         self.driven.reserve(bytes.len())?;
@@ -69,29 +67,19 @@ impl<D: Dialect, C: Cells> Bench<D, C> {
     }
 
     fn carry_out(&mut self, bytes: &[u8]) -> Outcome
-        requires { (self.old.driven.items ≡ []) × (length bytes.now ≤ vec_capacity self.old.driven) }
-        ensures { RanRecord self.old.held bytes.now (whole D.facts C.lasting C.site C.images self.old.part) result self.new.driven.items self.new.held (whole D.facts C.lasting C.site C.images self.new.part) }
+        requires { ClearedFor (length bytes.now) self.old.driven }
+        ensures { RanRecord bytes.now (state_of D.Dialect C.Cells self.old) result self.new.driven.items (state_of D.Dialect C.Cells self.new) }
     {
-        match Record::read(bytes) {
-            Ok(record) => self.obey(record),
-            Err(fault) => Err(fault),
-        }
+        self.obey(Record::read(bytes)?)
     }
 
     fn obey(&mut self, record: Record<'_>) -> Outcome
-        requires { (self.old.driven.items ≡ []) × (bytes_sent (said_by «record») ≤ vec_capacity self.old.driven) }
-        ensures { (answer : Result ℕ Refused) × ((result ≡ of_record answer) × Ran self.old.held (said_by «record».entry) (whole D.facts C.lasting C.site C.images self.old.part) answer self.new.driven.items self.new.held (whole D.facts C.lasting C.site C.images self.new.part)) }
+        requires { ClearedFor (bytes_sent (said_by «record»)) self.old.driven }
+        ensures { (answer : Result ℕ Refused) × ((result ≡ of_record answer) × Ran (said_by «record».entry) (state_of D.Dialect C.Cells self.old) answer self.new.driven.items (state_of D.Dialect C.Cells self.new)) }
     {
-        let level = self.held;
         match record {
-            Record::Transfer { clocks, bytes } => done(record::transfer(
-                &mut self.part,
-                level,
-                clocks,
-                bytes,
-                &mut self.driven,
-            )),
-            Record::Ticks { count } => ticked(record::tick(&mut self.part, level, count)),
+            Record::Transfer { clocks, bytes } => done(self.transfer(clocks, bytes)),
+            Record::Ticks { count } => Ok(self.tick(count)?),
             Record::Cut { charged } => done(self.part.cut(charged)),
             Record::Hold { held } => {
                 self.held = held;
@@ -102,14 +90,7 @@ impl<D: Dialect, C: Cells> Bench<D, C> {
     }
 }
 
-// A part's answer as a record's outcome; its refusal becomes a fault of the record.
-fn ticked(answer: Result<u32, Refusal>) -> Outcome
-    ensures { result ≡ of_record answer }
-{
-    Ok(answer?)
-}
-
-// The same of a call that answers nothing.
+// The answer of a call that answers nothing as a record's outcome; its refusal becomes a fault of the record.
 fn done(answer: Result<(), Refusal>) -> Outcome
     ensures { result ≡ of_record (answered answer) }
 {

@@ -1,31 +1,52 @@
 -- Where a text is cut into its first line and the rest.
-use Rattle.std.proofs.Common.{◌≡◌, ℕ, ◌+◌, ◌<◌, Bool, true, false, cond, eqb, List, [], ◌∷◌, ◌++◌, length, get_or, take, drop, Some, sym, refl, ap, ◌∙◌, subst, append_assoc, append-nil, arith}
-use Rattle.std.proofs.lemmas.List.{take_more, drop_more}
-use Rattle.std.proofs.lemmas.Bool.{cond-true, cond-false}
+use Rattle.std.proofs.Common.{◌≡◌, ℕ, suc, ◌+◌, ◌<◌, ◌≤◌, Bool, true, false, not, cond, eqb, ltb, ltb-false, List, [], ◌∷◌, length, take, drop, Some, None, sym, refl, ap, ap₂, ◌∙◌, subst, arith}
+use Rattle.std.proofs.lemmas.List.{take_all, drop_all}
+use Rattle.std.proofs.lemmas.List.Quantifiers.{position-Some}
+use Rattle.std.specs.List.{position, position_or_len}
 use Rattle.report.specs.Lines.{cut, lines, in_front, first_line}
 
--- ---- a loop that looks for the line feed
+-- ---- the first line feed, where there is one
 
--- a cut of what is left of a text, behind its front
-abbrev pub behind : List ℕ → List ℕ × List ℕ → List ℕ × List ℕ
-behind front (line, rest) = (front ++ line, rest)
+-- how many characters stand before it
+abbrev before_feed : List ℕ → ℕ
+before_feed text = position_or_len (λ c. eqb c 10) text
 
--- one character more that is no line feed
-pub passed : (text : List ℕ) (i : ℕ) → i < length text → false ≡ eqb (get_or text i 0) 10
-    → behind (take (i + 1) text) (cut (drop (i + 1) text)) ≡ behind (take i text) (cut (drop i text))
-passed text i h other =
-    ap (λ front. behind front (cut (drop (i + 1) text))) (take_more text i 0 h)
-    ∙ ap (λ l. (l, (cut (drop (i + 1) text)).1)) (append_assoc (take i text) (get_or text i 0 ∷ []) (cut (drop (i + 1) text)).0)
-    ∙ ap (behind (take i text)) (sym (cond-false _ _ _ (sym other)))
-    ∙ ap (λ l. behind (take i text) (cut l)) (sym (drop_more text i 0 h))
+one_more : (n : ℕ) → 1 + n ≡ suc n
+one_more n = omega arith
 
--- a line feed
-pub found : (text : List ℕ) (i : ℕ) → i < length text → true ≡ eqb (get_or text i 0) 10
-    → (take i text, drop (i + 1) text) ≡ behind (take i text) (cut (drop i text))
-found text i h is =
-    ap (λ l. (l, drop (i + 1) text)) (sym (append-nil (take i text)))
-    ∙ ap (behind (take i text)) (sym (cond-true _ _ _ (sym is)))
-    ∙ ap (λ l. behind (take i text) (cut l)) (sym (drop_more text i 0 h))
+two_more : (n : ℕ) → 1 + n + 1 ≡ suc (n + 1)
+two_more n = omega arith
+
+cut_at_feed : (text : List ℕ) → (take (before_feed text) text, drop (before_feed text + 1) text) ≡ cut text
+cut_at_feed [] = refl
+cut_at_feed (c ∷ text) =
+    let n : ℕ = before_feed text in
+    elim (eqb c 10) as (λ feed. ◌≡◌ {A = List ℕ × List ℕ}
+    (take (cond (not feed) (1 + n) 0) (c ∷ text), drop (cond (not feed) (1 + n) 0 + 1) (c ∷ text))
+    (cond feed ([], text) (c ∷ (cut text).0, (cut text).1))) [
+      | true ↦ refl
+      | false ↦ ap₂ (λ i j. (take i (c ∷ text), drop j (c ∷ text))) (one_more n) (two_more n) ∙ ap (λ q. (c ∷ q.0, q.1)) (cut_at_feed text)
+    ]
+
+is_some : (b : Bool) (n i : ℕ) → Some i ≡ cond b (Some n) None → i ≡ n
+is_some true n i e = cc
+is_some false n i e = absurd (let z : ◌≡◌ {A = ℕ} 0 1 = cc in omega arith)
+
+is_none : (b : Bool) (n : ℕ) → None ≡ cond b (Some n) None → b ≡ false
+is_none true n e = absurd (let z : ◌≡◌ {A = ℕ} 0 1 = cc in omega arith)
+is_none false n e = refl
+
+pub cut_found : (text : List ℕ) (i : ℕ) → Some i ≡ position (λ c. eqb c 10) text → (take i text, drop (i + 1) text) ≡ cut text
+cut_found text i e =
+    ap (λ n. (take n text, drop (n + 1) text)) (is_some (ltb (before_feed text) (length text)) (before_feed text) i e) ∙ cut_at_feed text
+
+pub cut_whole : (text : List ℕ) → None ≡ position (λ c. eqb c 10) text → (text, []) ≡ cut text
+cut_whole text e =
+    let past : length text ≤ before_feed text = ltb-false (before_feed text) (length text) (is_none (ltb (before_feed text) (length text)) (before_feed text) e) in
+    ap₂ (λ l r. (l, r)) (sym (take_all (before_feed text) text past)) (sym (drop_all (before_feed text + 1) text (omega arith))) ∙ cut_at_feed text
+
+pub feed_is_within : (text : List ℕ) (i : ℕ) → Some i ≡ position (λ c. eqb c 10) text → 0 < length text
+feed_is_within text i e = let within = position-Some (λ c. eqb c 10) text i 0 (sym e) in omega (arith, within.0)
 
 pub first_is_cut : (text : List ℕ) → 0 < length text → Some (cut text) ≡ first_line text
 first_is_cut [] h = absurd (omega arith)

@@ -1,29 +1,17 @@
 -- What is printed of the captured lines: a line for each, and at the end how many were right, wrong and unreadable.
-use Rattle.std.specs.Prelude.{ℕ, ◌+◌, ◌-◌, ◌/◌, ◌%◌, ◌^◌, min, Bool, cond, List, [], ◌∷◌, ◌++◌, Ok, Err, codes, decimal, Result, nat_lt}
+use Rattle.std.specs.Prelude.{ℕ, ◌+◌, ◌-◌, ◌/◌, ◌%◌, ◌^◌, min, Bool, cond, List, [], ◌∷◌, ◌++◌, Ok, Err, codes, decimal, Result}
 use Rattle.fields.specs.declared.Unreadable.{Unreadable}
-use Rattle.fields.specs.declared.Unreadable.TheVariants.{Empty, Size, AddressBytes, NotHexadecimal, HalfByte, TooShort, TooLong}
+use Rattle.fields.specs.Reasons.{reason}
+use Rattle.figures.specs.Figures.{figure}
 use Rattle.capture.specs.declared.Verdict.{Verdict}
 use Rattle.report.specs.declared.Tally.{Tally}
 
--- an upper-case hexadecimal digit
-abbrev pub figure : ℕ → ℕ
-figure d = cond (nat_lt d 10) (48 + d) (55 + d)
-
--- a sum as four of them
+-- a sum as four upper-case hexadecimal figures
 abbrev pub sum_text : ℕ → List ℕ
 sum_text sum = figure (sum / 4096 % 16) ∷ figure (sum / 256 % 16) ∷ figure (sum / 16 % 16) ∷ figure (sum % 16) ∷ []
 
 abbrev pub word : Bool → List ℕ
 word right = cond right (codes "right") (codes "wrong")
-
-unfoldable pub reason : Unreadable → List ℕ
-reason Empty = codes "nothing stands on the line"
-reason Size = codes "the size is no power of two from 256 to 65536 (2 address bytes) or 16777216 (3)"
-reason AddressBytes = codes "the number of address bytes is not 2 or 3"
-reason NotHexadecimal = codes "a character is no hexadecimal digit"
-reason HalfByte = codes "a byte has one hexadecimal digit only"
-reason TooShort = codes "the line ends before the frame does"
-reason TooLong = codes "something stands behind the frame"
 
 -- as `3 right page 2 offset 0 sum sent 29B1 worked out 29B1`
 abbrev pub verdict_text : ℕ → Verdict → List ℕ

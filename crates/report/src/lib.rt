@@ -1,18 +1,19 @@
 // What is printed of captured lines.
 #![tactic(auto)]
 
-ghost use Rattle.std.specs.Prelude.{◌≡◌, ◌%◌, ◌<◌, [], ◌∷◌, ◌++◌, length, IfSome, Some, string_bytes, MatchOption, OnOk, ◌==◌};
+ghost use Rattle.std.specs.Prelude.{◌≡◌, ◌<◌, [], ◌∷◌, ◌++◌, length, position, IfSome, Some, string_bytes, MatchOption, OnOk, ◌==◌};
+ghost use Rattle.std.specs.Iterator.{YieldsFirstRef, item_count};
 ghost use Rattle.report.specs.Lines.{lines, first_line, both_seen};
-ghost use Rattle.report.specs.Report.{figure, sum_text, word, reason, verdict_text, reason_text, line_text, counted, tally_text};
+ghost use Rattle.report.specs.Report.{sum_text, verdict_text, reason_text, line_text, counted, tally_text};
 
 use capture::Verdict;
 use fields::Unreadable;
 use std::fmt;
 
-fn is_line_feed(c: u8) -> bool
-    ensures { result ≡ (c == 10) }
+fn find_line_feed(text: &[u8]) -> Option<usize>
+    ensures { result ≡ position (λ c. c == 10) text.now }
 {
-    c == b'\n'
+    text.iter().position(|c| *c == b'\n')
 }
 
 // Splits the first line off a text, without its line feed. Answers nothing where the text is empty.
@@ -21,20 +22,33 @@ pub fn split_line(text: &[u8]) -> Option<(&[u8], &[u8])>
     ensures others { MatchOption result (lines text.now ≡ []) (λ p. lines text.now ≡ p.0.now ∷ lines p.1.now) }
     ensures shorter { IfSome result (λ p. length p.1.now < length text.now) }
 {
-    for (i, c) in text.iter().enumerate() {
-        if is_line_feed(*c) {
-            return Some((&text[0..i], &text[i + 1..]));
-        }
+    match find_line_feed(text) {
+        Some(end) => Some((&text[..end], &text[end + 1..])),
+        None if text.is_empty() => None,
+        None => Some((text, &text[text.len()..])),
     }
-    if text.is_empty() {
-        None
-    } else {
-        Some((text, &text[text.len()..]))
+}
+
+// The lines of a text, one after another, without their line feeds.
+#[derive(Drop)]
+pub struct Lines<'a>(pub &'a [u8]);
+
+impl<'a> Iterator for Lines<'a> {
+    type Item = &'a [u8];
+
+    ghost next_gives = { YieldsFirstRef (λ s. lines s.0.now) };
+
+    ghost remaining = { item_count (λ s. lines s.0.now) };
+
+    fn next(&mut self) -> Option<&'a [u8]> {
+        let (line, rest) = split_line(self.0)?;
+        self.0 = rest;
+        Some(line)
     }
 }
 
 // How many lines were right, wrong and unreadable. Each count stays at the largest number of 64 bits.
-#[derive(Clone, Copy)]
+#[derive(Clone, Copy, PartialEq, Eq, Debug, Default)]
 pub struct Tally {
     pub right: u64,
     pub wrong: u64,
@@ -45,11 +59,7 @@ impl Tally {
     pub fn new() -> Tally
         ensures { result ≡ record { right = 0; wrong = 0; unreadable = 0 } }
     {
-        Tally {
-            right: 0,
-            wrong: 0,
-            unreadable: 0,
-        }
+        Tally::default()
     }
 
     pub fn count(&mut self, examined: &Result<Verdict, Unreadable>)
@@ -63,71 +73,32 @@ impl Tally {
     }
 }
 
-fn hexadecimal_figure(number: u16) -> u8
-    ensures { result ≡ figure (number % 16) }
-{
-    let digit = (number % 16) as u8;
-    if digit < 10 {
-        b'0' + digit
-    } else {
-        b'A' + (digit - 10)
-    }
-}
-
-// A sum is shown as four upper-case hexadecimal digits.
+// A sum is shown as four upper-case hexadecimal digits. A type of its own, since with `{:04X}` in `add_verdict` the proof
+// of the whole line does not close: it has too many terms for the search.
 #[derive(Clone, Copy)]
 struct Sum(u16);
 
 impl fmt::Display for Sum {
     ghost output = { λ s. Some (sum_text s.0) };
 
+    #[tactic(auto, using(crate::proofs::Figures::four_figures))]
     fn fmt<W: fmt::Write>(&self, f: &mut fmt::Formatter<W>) -> fmt::Result {
         let sum = self.0;
-        let figures = [
-            hexadecimal_figure(sum / 4096),
-            hexadecimal_figure(sum / 256),
-            hexadecimal_figure(sum / 16),
-            hexadecimal_figure(sum),
-        ];
-        match std::str::from_utf8(&figures) {
-            Ok(text) => f.write_str(text),
-            Err(_) => Err(fmt::Error),
-        }
-    }
-}
-
-fn word_of(right: bool) -> &'static str
-    ensures { result.now ≡ word right }
-{
-    if right { "right" } else { "wrong" }
-}
-
-fn reason_of(why: Unreadable) -> &'static str
-    ensures { result.now ≡ reason why }
-{
-    match why {
-        Unreadable::Empty => "nothing stands on the line",
-        Unreadable::Size =>
-            "the size is no power of two from 256 to 65536 (2 address bytes) or 16777216 (3)",
-        Unreadable::AddressBytes => "the number of address bytes is not 2 or 3",
-        Unreadable::NotHexadecimal => "a character is no hexadecimal digit",
-        Unreadable::HalfByte => "a byte has one hexadecimal digit only",
-        Unreadable::TooShort => "the line ends before the frame does",
-        Unreadable::TooLong => "something stands behind the frame",
+        write!(f, "{sum:04X}")
     }
 }
 
 fn add_verdict(out: &mut String, number: u64, verdict: Verdict) -> fmt::Result
     ensures { OnOk result (string_bytes out.new ≡ string_bytes out.old ++ verdict_text number verdict) }
 {
-    let word = word_of(verdict.right);
+    let word = if verdict.right { "right" } else { "wrong" };
     let page = verdict.page;
     let offset = verdict.offset;
     let sent = Sum(verdict.sum_sent);
     let worked_out = Sum(verdict.sum_worked_out);
-    write!(
+    writeln!(
         out,
-        "{number} {word} page {page} offset {offset} sum sent {sent} worked out {worked_out}\n"
+        "{number} {word} page {page} offset {offset} sum sent {sent} worked out {worked_out}"
     )?;
     Ok(())
 }
@@ -135,8 +106,7 @@ fn add_verdict(out: &mut String, number: u64, verdict: Verdict) -> fmt::Result
 fn add_reason(out: &mut String, number: u64, why: Unreadable) -> fmt::Result
     ensures { OnOk result (string_bytes out.new ≡ string_bytes out.old ++ reason_text number why) }
 {
-    let words = reason_of(why);
-    write!(out, "{number} unreadable: {words}\n")?;
+    writeln!(out, "{number} unreadable: {why}")?;
     Ok(())
 }
 
@@ -154,12 +124,11 @@ pub fn add_line(out: &mut String, number: u64, examined: Result<Verdict, Unreada
 pub fn add_tally(out: &mut String, tally: &Tally) -> fmt::Result
     ensures { OnOk result (string_bytes out.new ≡ string_bytes out.old ++ tally_text tally.now) }
 {
-    let right = tally.right;
-    let wrong = tally.wrong;
-    let unreadable = tally.unreadable;
-    write!(
-        out,
-        "{right} right, {wrong} wrong, {unreadable} unreadable\n"
-    )?;
+    let Tally {
+        right,
+        wrong,
+        unreadable,
+    } = *tally;
+    writeln!(out, "{right} right, {wrong} wrong, {unreadable} unreadable")?;
     Ok(())
 }

@@ -11,7 +11,8 @@ pub enum Activity {
     Waking(u32),
 }
 
-// Power is off, or on with an activity.
+// Power is off, or on with an activity. An enum of its own and no `Option`: every rule and promise speaks of power that is off
+// or on, and `None` would not say which.
 #[derive(Clone, Copy, PartialEq, Eq, Debug)]
 pub enum Power {
     Off,

@@ -1,5 +1,5 @@
 -- Reading a record undoes writing it.
-use Rattle.std.proofs.Common.{◌≡◌, ℕ, Bool, true, false, eqb, leb, List, [], ◌∷◌, Ok, Err, Result, sym, refl, ap, ◌∙◌, subst, arith}
+use Rattle.std.proofs.Common.{◌≡◌, ℕ, Bool, true, false, eqb, leb, List, [], ◌∷◌, Ok, Err, Result, sym, refl, ap, ◌∙◌, subst}
 use Rattle.std.proofs.lemmas.Bool.{cond-true, cond_both, leb-true, le-leb, eqb-true}
 use Rattle.runfile.specs.declared.fault.RecordFault.{RecordFault}
 use Rattle.runfile.specs.Letters.{Said, transfer, ticks, cut, hold, power_up, bit, written, InBounds, transfer_said, ticks_said, truth_said, saying, power_up_said, said, ReadsBack}
@@ -23,7 +23,7 @@ abbrev Was : List ℕ → Result Said RecordFault → Type 0
 Was bytes r = (s : Said) → r ≡ Ok s → (bytes ≡ written s) × InBounds s
 
 refused_was : (bytes : List ℕ) (f : RecordFault) → Was bytes (Err f)
-refused_was bytes f s e = absurd (let z : ◌≡◌ {A = ℕ} 0 1 = cc in omega arith)
+refused_was bytes f s e = cc
 
 -- of a record that is read as x
 read_was : (bytes : List ℕ) (x : Said) → bytes ≡ written x → InBounds x → Was bytes (Ok x)
@@ -70,5 +70,4 @@ said_was (letter ∷ args) =
 pub reads_back : (bytes : List ℕ) (r : Result Said RecordFault) → r ≡ said bytes → ReadsBack bytes r
 reads_back bytes (Ok s) is = said_was bytes s (sym is)
 reads_back bytes (Err f) is = λ s fine are.
-    let e : Err f ≡ Ok s = is ∙ ap said are ∙ read_back s fine in
-    let z : ◌≡◌ {A = ℕ} 0 1 = cc in omega arith
+    let e : Err f ≡ Ok s = is ∙ ap said are ∙ read_back s fine in cc

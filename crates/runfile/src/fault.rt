@@ -6,15 +6,15 @@ ghost use Rattle.runfile.specs.declared.fault.RecordFault.TheVariants.{Refused};
 
 use refusal::Refusal;
 
-// Why a file does not open.
+// Why a file does not open, with the number of each fault.
 #[derive(Clone, Copy, PartialEq, Eq, Debug)]
 pub enum OpeningFault {
     // The file is too long, has too many records, or ends before its table does.
-    NoTable,
+    NoTable = 31,
     // A record is empty, or starts before the table's end or the end of the record before.
-    Misplaced,
+    Misplaced = 32,
     // A record reaches past the file's end.
-    PastEnd,
+    PastEnd = 33,
 }
 
 impl OpeningFault {
@@ -22,11 +22,7 @@ impl OpeningFault {
     pub fn number(self) -> u8
         ensures { result ≡ opening_number self }
     {
-        match self {
-            OpeningFault::NoTable => 31,
-            OpeningFault::Misplaced => 32,
-            OpeningFault::PastEnd => 33,
-        }
+        self as u8
     }
 }
 

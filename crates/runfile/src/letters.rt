@@ -1,7 +1,7 @@
 // What a record says.
 ghost use Rattle.std.specs.Prelude.{◌≡◌};
 ghost use Rattle.runfile.specs.Letters.{said, ReadsBack, transfer_said, ticks_said, truth_said, power_up_said};
-ghost use Rattle.runfile.specs.Seen.{seen, letter_text, letter_of};
+ghost use Rattle.runfile.specs.Seen.{seen, letter_text, letter_behind, letter_of};
 
 use super::fault::RecordFault;
 
@@ -13,7 +13,24 @@ pub enum Letter {
     C,
     H,
     P,
+    // Any other byte, and no byte at all. A case and no `Option`, since it too is printed: as ?.
     Unknown,
+}
+
+// The letter that a byte is.
+impl From<u8> for Letter {
+    ghost from_gives = { λ byte letter. letter ≡ letter_behind byte };
+
+    fn from(byte: u8) -> Letter {
+        match byte {
+            b'T' => Letter::T,
+            b'K' => Letter::K,
+            b'C' => Letter::C,
+            b'H' => Letter::H,
+            b'P' => Letter::P,
+            _ => Letter::Unknown,
+        }
+    }
 }
 
 impl Letter {
@@ -21,14 +38,9 @@ impl Letter {
     pub fn of(bytes: &[u8]) -> Letter
         ensures { result ≡ letter_of bytes.now }
     {
-        match bytes {
-            [b'T', ..] => Letter::T,
-            [b'K', ..] => Letter::K,
-            [b'C', ..] => Letter::C,
-            [b'H', ..] => Letter::H,
-            [b'P', ..] => Letter::P,
-            _ => Letter::Unknown,
-        }
+        bytes
+            .first()
+            .map_or(Letter::Unknown, |byte| Letter::from(*byte))
     }
 
     // The character that is printed for it.
@@ -75,20 +87,18 @@ impl<'a> Record<'a> {
 fn read_letter(bytes: &[u8]) -> Result<Record<'_>, RecordFault>
     ensures { seen result ≡ said bytes.now }
 {
-    let Some((letter, args)) = bytes.split_first() else {
-        return Err(RecordFault::UnknownLetter);
-    };
-    match *letter {
-        b'T' => read_transfer(args),
-        b'K' => read_ticks(args),
-        b'C' => Ok(Record::Cut {
+    let (first, args) = bytes.split_first().ok_or(RecordFault::UnknownLetter)?;
+    match Letter::from(*first) {
+        Letter::T => read_transfer(args),
+        Letter::K => read_ticks(args),
+        Letter::C => Ok(Record::Cut {
             charged: read_truth(args)?,
         }),
-        b'H' => Ok(Record::Hold {
+        Letter::H => Ok(Record::Hold {
             held: read_truth(args)?,
         }),
-        b'P' => read_power_up(args),
-        _ => Err(RecordFault::UnknownLetter),
+        Letter::P => read_power_up(args),
+        Letter::Unknown => Err(RecordFault::UnknownLetter),
     }
 }
 
@@ -96,8 +106,8 @@ fn read_letter(bytes: &[u8]) -> Result<Record<'_>, RecordFault>
 fn read_transfer(args: &[u8]) -> Result<Record<'_>, RecordFault>
     ensures { seen result ≡ transfer_said args.now }
 {
-    match args.split_first() {
-        Some((clocks, sent)) if *clocks <= 7 => Ok(Record::Transfer {
+    match args {
+        [clocks, sent @ ..] if *clocks <= 7 => Ok(Record::Transfer {
             clocks: *clocks,
             bytes: sent,
         }),

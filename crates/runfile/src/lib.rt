@@ -1,8 +1,8 @@
 //! Run files: recorded sessions with a part. `Reader::open` checks the table of a lent file, or answers its first fault; the
-//! reader then yields the records as parts of the file with their place, and `Record::read` says what one of them says.
+//! reader is then an iterator of the records, as parts of the file with their place, and `Record::read` says what one of them
+//! says.
 //!
-//!     let mut records = Reader::open(&file)?;
-//!     while let Some(found) = records.next() {
+//!     for found in Reader::open(&file)? {
 //!         let record = Record::read(found.bytes)?;
 //!     }
 #![tactic(auto)]

@@ -1,10 +1,9 @@
-// A reader over a lent run file: it yields the records as parts of the file, each with its place.
-ghost use Rattle.std.specs.Prelude.{◌≡◌, Some, MatchResult};
-ghost use Rattle.runfile.specs.Table.{opening_fault, located};
-ghost use Rattle.runfile.specs.Reader.{found_seen, Stands, Yields};
+// A reader over a lent run file: an iterator of the records as parts of the file, each with its place.
+ghost use Rattle.std.specs.Prelude.{◌≡◌, ◌≤◌, Some, None, MatchResult};
+ghost use Rattle.runfile.specs.Table.{count_of, opening_fault};
 
 use super::fault::{FileFault, OpeningFault, Spot};
-use super::table;
+use super::table::{self, Pair};
 
 // A record where it stands in its file.
 #[derive(Clone, Copy)]
@@ -19,33 +18,32 @@ pub struct Reader<'a> {
     file: &'a [u8],
     count: u16,
     next: u16,
+    ghost opens: { opening_fault file.now ≡ None },
+    ghost counted: { count ≡ count_of file.now },
+    ghost within: { next ≤ count },
 }
 
 impl<'a> Reader<'a> {
+    ghost use Rattle.runfile.specs.Reader.{Opened};
+
     // Opens a file: checks its table, and stands before its first record. Refused with the first fault of the table: 31 for
     // the table as a whole, then pair by pair 32 and 33.
     pub fn open(file: &'a [u8]) -> Result<Reader<'a>, FileFault>
-        ensures { MatchResult result (λ reader. Stands file.now 0 reader.file.now reader.next reader.count) (λ fault. opening_fault file.now ≡ Some fault) }
+        ensures { MatchResult result (λ reader. Opened file.now reader) (λ fault. opening_fault file.now ≡ Some fault) }
     {
-        let Some(count) = table::count(file) else {
-            let spot = Spot {
-                number: 0,
-                place: 0,
-            };
-            return Err(FileFault::from((spot, OpeningFault::NoTable)));
+        let no_pair = Spot {
+            number: 0,
+            place: 0,
         };
+        let count = table::count(file).ok_or(FileFault::from((no_pair, OpeningFault::NoTable)))?;
         let mut floor = 2 + 4 * count as usize;
+        // By number and not over the pairs' bytes: a fault tells the number of its pair, and where that stands.
         for i in 0..count {
-            match table::check(file, i, floor) {
-                Ok(end) => floor = end,
-                Err(fault) => {
-                    let spot = Spot {
-                        number: i as usize,
-                        place: 2 + 4 * i as usize,
-                    };
-                    return Err(FileFault::from((spot, fault)));
-                }
-            }
+            let pair = Spot {
+                number: i as usize,
+                place: 2 + 4 * i as usize,
+            };
+            floor = table::check(file, i, floor).map_err(|fault| FileFault::from((pair, fault)))?;
         }
         Ok(Reader {
             file,
@@ -53,41 +51,34 @@ impl<'a> Reader<'a> {
             next: 0,
         })
     }
+}
+
+impl<'a> Iterator for Reader<'a> {
+    ghost use Rattle.std.specs.Prelude.{◌≡◌};
+    ghost use Rattle.std.specs.Iterator.{YieldsFirstBy, item_count};
+    ghost use Rattle.runfile.specs.Reader.{found_seen, left};
+
+    type Item = Found<'a>;
+
+    // The records come as the table has them, and in its order.
+    ghost next_gives = { YieldsFirstBy found_seen left };
+
+    ghost remaining = { item_count left };
 
     // The next record, or none behind the last.
-    pub fn next(&mut self) -> Option<Found<'a>>
-        ensures { Yields self.old.file.now self.old.next self.old.count (found_seen result) self.new.file.now self.new.next self.new.count }
-    {
+    fn next(&mut self) -> Option<Found<'a>> {
         if self.next >= self.count {
             return None;
         }
-        let found = locate(self.file, self.next);
-        if found.is_some() {
-            self.next += 1;
-        }
-        found
+        let Pair { offset, length } = Pair::read(self.file, self.next);
+        let spot = Spot {
+            number: self.next as usize,
+            place: offset,
+        };
+        self.next += 1;
+        Some(Found {
+            spot,
+            bytes: &self.file[offset..offset + length],
+        })
     }
-}
-
-// The record of a pair, if the pair stands in the file, and the record too.
-fn locate(file: &[u8], number: u16) -> Option<Found<'_>>
-    ensures { found_seen result ≡ located file.now number }
-{
-    let at = 2 + 4 * number as usize;
-    if file.len() < at + 4 {
-        return None;
-    }
-    let offset = table::number_at(file, at) as usize;
-    let end = offset + table::number_at(file, at + 2) as usize;
-    if file.len() < end {
-        return None;
-    }
-    let spot = Spot {
-        number: number as usize,
-        place: offset,
-    };
-    Some(Found {
-        spot,
-        bytes: &file[offset..end],
-    })
 }

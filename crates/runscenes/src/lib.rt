@@ -19,23 +19,17 @@ mod tests {
 
     #[test]
     fn fault_of_the_table_names_its_pair(rt: HostRuntime) -> Result<(), Fail> {
-        match Reader::open(&OVERLAP) {
-            Ok(_) => Err(Fail::new("it opened")),
-            Err(fault) => {
-                assert_eq!(rt; fault.number(), 32);
-                assert_eq!(rt; fault.layer, Layer::File);
-                assert_eq!(rt; fault.spot.number, 1);
-                assert_eq!(rt; fault.spot.place, 6);
-                Ok(())
-            }
-        }
+        let fault = Reader::open(&OVERLAP).err().ok_or("it opened")?;
+        assert_eq!(rt; fault.number(), 32);
+        assert_eq!(rt; fault.layer, Layer::File);
+        assert_eq!(rt; fault.spot.number, 1);
+        assert_eq!(rt; fault.spot.place, 6);
+        Ok(())
     }
 
     #[test]
     fn records_are_found_between_gaps(rt: HostRuntime) -> Result<(), Fail> {
-        let Ok(mut records) = Reader::open(&GAPS) else {
-            return Err(Fail::new("it did not open"));
-        };
+        let mut records = Reader::open(&GAPS)?;
         let first = records.next().ok_or("no first record")?;
         assert_eq!(rt; first.spot.place, 11);
         assert!(rt; first.bytes == b"P".as_slice());
@@ -44,6 +38,13 @@ mod tests {
         assert_eq!(rt; second.spot.place, 13);
         assert!(rt; second.bytes == b"K\x04".as_slice());
         assert!(rt; records.next().is_none());
+        Ok(())
+    }
+
+    #[test]
+    fn reader_begins_a_chain(rt: HostRuntime) -> Result<(), Fail> {
+        let longest = Reader::open(&GAPS)?.map(|found| found.bytes.len()).max();
+        assert_eq!(rt; longest, Some(2));
         Ok(())
     }
 

@@ -1,29 +1,30 @@
--- What accepting a buffer leaves, by how much it holds.
-use Rattle.std.proofs.Common.{◌≡◌, ℕ, Bool, true, false, cond, not, ◌&&◌, ◌||◌, ltb, List, [], ◌∷◌, length, refl, ◌∙◌, ap₂, arith}
+-- What accepting a buffer leaves.
+use Rattle.std.proofs.Common.{◌≡◌, ℕ, Bool, true, false, cond, ◌==◌, ◌||◌, List, [], ◌∷◌, length, Some, None, refl, sym, ap, ◌∙◌, arith}
 use mathlib.Core.Bool.{or-false}
-use Rattle.std.proofs.lemmas.Bool.{lt-ltb, le-ltb}
+use Rattle.std.proofs.lemmas.Bool.{cond-false}
+use Rattle.std.proofs.lemmas.Option.{none-some}
+use Rattle.refusal.specs.declared.Refusal.{Refusal}
+use Rattle.refusal.specs.declared.Refusal.TheVariants.{Protected}
 use Rattle.rules.specs.Kind.{Kind, page_protected}
 use Rattle.rules.specs.Release.{has_bytes}
 use Rattle.rules.specs.Step.{marked}
 use Rattle.rules.specs.Write.{placed, accepted}
 
-some : (n : ℕ) (xs : List ℕ) → n ≡ length xs → ltb 0 n ≡ has_bytes xs
-some n [] e = le-ltb 0 n (omega arith)
-some n (x ∷ xs) e = lt-ltb 0 n (omega arith)
+-- what the answer of `accept` says of the page
+pub is_open : (p : Bool) → None ≡ cond p (Some Protected) None → p ≡ false
+is_open true e = absurd (none-some Protected e)
+is_open false e = refl
 
-pub held_blocked : (xs : List ℕ) (n : ℕ) (b h p : Bool) → n ≡ length xs → h ≡ p → (b || (ltb 0 n && h)) ≡ cond (has_bytes xs) (b || p) b
-held_blocked xs n b h p e s = ap₂ (λ f x. b || (f && x)) (some n xs e) s ∙ ways (has_bytes xs)
-  where
-    ways : (f : Bool) → (b || (f && p)) ≡ cond f (b || p) b
-    ways true = refl
-    ways false = or-false b
+pub is_shut : (r : Refusal) (p : Bool) → Some r ≡ cond p (Some Protected) None → (p ≡ true) × (r ≡ Protected)
+is_shut r true e = (refl, cc)
+is_shut r false e = absurd (none-some r (sym e))
 
-pub held_wrote : (k : Kind) (R page first : ℕ) (xs : List ℕ) (n : ℕ) (h : Bool) → n ≡ length xs → h ≡ page_protected k R page
-    → (w : Bool) → ((ltb 0 n && not h) || w) ≡ marked (accepted k R page first xs) w
-held_wrote k R page first xs n h e s w = ap₂ (λ f x. (f && not x) || w) (some n xs e) s ∙ ways xs (page_protected k R page)
-  where
-    ways : (ys : List ℕ) (p : Bool) → ((has_bytes ys && not p) || w) ≡ marked (cond p [] (placed page first ys)) w
-    ways [] true = refl
-    ways [] false = refl
-    ways (y ∷ ys) true = refl
-    ways (y ∷ ys) false = refl
+pub put_marks : (k : Kind) (R page first : ℕ) (xs : List ℕ) (w : Bool) → (length xs == 0) ≡ false → None ≡ cond (page_protected k R page) (Some Protected) None
+    → true ≡ marked (accepted k R page first xs) w
+put_marks k R page first [] w some e = absurd (let z : ◌≡◌ {A = ℕ} 0 1 = cc in omega arith)
+put_marks k R page first (x ∷ xs) w some e = sym (ap (λ es. marked es w) (cond-false (page_protected k R page) [] (placed page first (x ∷ xs)) (is_open (page_protected k R page) e)))
+
+pub same_answer : (xs : List ℕ) (blocked p : Bool) → (length xs == 0) ≡ false → None ≡ cond p (Some Protected) None
+    → cond blocked (Some Protected) None ≡ cond (cond (has_bytes xs) (blocked || p) blocked) (Some Protected) None
+same_answer [] blocked p some e = absurd (let z : ◌≡◌ {A = ℕ} 0 1 = cc in omega arith)
+same_answer (x ∷ xs) blocked p some e = ap (λ q. cond q (Some Protected) None) (sym (or-false blocked) ∙ ap (λ q. blocked || q) (sym (is_open p e)))

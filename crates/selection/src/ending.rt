@@ -1,22 +1,17 @@
 // What the release of a selection answers and does.
-ghost use Rattle.std.specs.Prelude.{◌≡◌, ◌+◌, ◌*◌, ◌≤◌, Bool, cond, ◌||◌, length, if◌then◌else◌, Some, None, nat_eq};
+ghost use Rattle.std.specs.Prelude.{◌≡◌, ◌+◌, ◌≤◌, cond, length, if◌then◌else◌, Some, None, nat_eq};
 ghost use Rattle.refusal.specs.declared.Refusal.TheVariants.{WrongLength, LeftoverClocks};
-ghost use Rattle.rules.specs.Frame.{is_right};
-ghost use Rattle.rules.specs.Kind.{page_protected};
-ghost use Rattle.rules.specs.Write.{accepted};
-ghost use Rattle.rules.specs.Release.{ended, paged_ended, frame_ended, effect, has_bytes};
-ghost use Rattle.rules.specs.Step.{ended_out, marked};
+ghost use Rattle.rules.specs.Frame.{frame_place, frame_data, frame_sum};
+ghost use Rattle.rules.specs.Release.{effect};
 ghost use Rattle.rules.specs.State.{unselected};
-ghost use Rattle.selection.specs.Held.{items};
-ghost use Rattle.selection.specs.View.{kind_of, kind_for, phase_of, state_of, Done, Denied, refusal_of};
+ghost use Rattle.selection.specs.View.{kind, kind_for, state_of, Fits, ends, ends_paged, ends_frame, Ends, Denied, refusal_of};
 
 use crate::address::modulo;
 use crate::control::Control;
-use crate::held::Held;
 use crate::opcode::is_write;
-use crate::phase::Phase;
+use crate::phase::{Phase, StatusBytes};
 use crate::reading::address_bytes;
-use crate::write::accept;
+use crate::write::{accept, fits, unblocked};
 use crate::writing::PageWrite;
 use cells::Cells;
 use dialect::{Dialect, Instruction};
@@ -55,62 +50,52 @@ fn whole(right_length: bool, clocks: u8) -> Result<(), Refusal>
     Ok(())
 }
 
-// What came of accepting a buffer: whether some data of the write fell in a protected page, and whether anything was put.
-#[derive(Drop)]
-struct Accepted {
-    blocked: bool,
-    wrote: bool,
-}
-
-// Accepts what the buffer of a paged write holds.
-fn accept_held<D: Dialect, C: Cells>(cells: &mut C, status_bits: u8, write: &PageWrite) -> Accepted
-    ensures blocked { result.blocked ≡ (if has_bytes (items write.now.held) then write.now.blocked || page_protected (kind_of D.facts C.lasting (C.site cells.old)) status_bits write.now.page else write.now.blocked) }
-    ensures wrote { (written : Bool) → (result.wrote || written) ≡ marked (accepted (kind_of D.facts C.lasting (C.site cells.old)) status_bits write.now.page write.now.first (items write.now.held)) written }
-    ensures done { Done (kind_of D.facts C.lasting (C.site cells.old)) (accepted (kind_of D.facts C.lasting (C.site cells.old)) status_bits write.now.page write.now.first (items write.now.held)) (C.images cells.old) (C.site cells.old) (C.images cells.new) (C.site cells.new) }
-{
-    let here = accept::<D, C>(
-        cells,
-        status_bits,
-        write.page,
-        write.first,
-        write.held.bytes(),
-    );
-    let filled = write.held.count() > 0;
-    Accepted {
-        blocked: write.blocked | (filled & here),
-        wrote: filled & !here,
-    }
-}
-
 // The release of a whole paged write: it accepts what its buffer holds, and 14 says that some data fell in a protected page.
 fn end_paged<D: Dialect, C: Cells>(
     control: &mut Control,
     write: &PageWrite,
     cells: &mut C,
 ) -> Result<(), Refusal>
-    ensures answer { refusal_of result ≡ (paged_ended (kind_of D.facts C.lasting (C.site cells.old)) (state_of control.old unselected) write.now.page write.now.first (items write.now.held) write.now.blocked).refusal }
-    ensures control { state_of control.new unselected ≡ (ended_out (paged_ended (kind_of D.facts C.lasting (C.site cells.old)) (state_of control.old unselected) write.now.page write.now.first (items write.now.held) write.now.blocked)).state }
-    ensures done { Done (kind_of D.facts C.lasting (C.site cells.old)) (paged_ended (kind_of D.facts C.lasting (C.site cells.old)) (state_of control.old unselected) write.now.page write.now.first (items write.now.held) write.now.blocked).events (C.images cells.old) (C.site cells.old) (C.images cells.new) (C.site cells.new) }
+    ensures { Ends D.facts C.Cells (ends_paged (kind D.facts C.Cells cells.old) control.old write.now) cells.old result control.new cells.new }
 {
-    let accepted = accept_held::<D, C>(cells, control.status_bits, write);
     control.latch = false;
-    control.written = accepted.wrote | control.written;
-    if accepted.blocked {
-        Err(Refusal::Protected)
-    } else {
-        Ok(())
+    if write.held.is_empty() {
+        return unblocked(write.blocked);
     }
+    let held = write.held.as_slice();
+    accept::<D, C>(cells, control.status_bits, write.page, write.first, held)?;
+    control.written = true;
+    unblocked(write.blocked)
 }
 
-// Whether a frame of the right length has the sum of its page transfer.
-fn fits<D: Dialect>(frame: &[u8], size: u32) -> bool
-    requires { (length frame.now ≡ D.facts.address_bytes + 66) × (64 ≤ size) }
-    ensures { result ≡ is_right (kind_for D.facts size) frame.now }
+// How many bytes a secure frame has: those of the address, 64 of data and 2 of the sum.
+pub(crate) fn frame_length<D: Dialect>() -> usize
+    ensures { result ≡ D.facts.address_bytes + 66 }
 {
-    let k = D::address_length();
-    let place = modulo(&frame[0..k], size);
-    let worked_out = crc::page_sum(address_bytes::<D>(), size, place, &frame[k..k + 64]);
-    worked_out == u16::from(frame[k + 64]) * 256 + u16::from(frame[k + 65])
+    D::address_length() + 66
+}
+
+// A secure frame, taken apart: the address modulo the size, the data, and the sum as sent.
+struct Frame<'a> {
+    place: u32,
+    data: &'a [u8],
+    sum: u16,
+}
+
+// Takes a frame of the right length apart.
+fn parts<D: Dialect>(frame: &[u8], size: u32) -> Frame<'_>
+    requires { (length frame.now ≡ D.facts.address_bytes + 66) × (64 ≤ size) }
+    ensures place { result.place ≡ frame_place (kind_for D.facts size) frame.now }
+    ensures data { result.«data».now ≡ frame_data (kind_for D.facts size) frame.now }
+    ensures sum { result.sum ≡ frame_sum (kind_for D.facts size) frame.now }
+{
+    let (address, rest) = frame.split_at(D::address_length());
+    let (data, sum) = rest.split_at(64);
+    Frame {
+        place: modulo(address, size),
+        data,
+        sum: u16::from_be_bytes([sum[0], sum[1]]),
+    }
 }
 
 // The release of a whole secure frame. A wrong sum is refused with 17 and sets the fail mark. A right frame is placed as a
@@ -121,27 +106,17 @@ fn end_frame<D: Dialect, C: Cells>(
     cells: &mut C,
     size: u32,
 ) -> Result<(), Refusal>
-    requires { (length frame.now ≡ D.facts.address_bytes + 66) × ((size ≡ 64 * (C.site cells.old).pages) × (64 ≤ size)) }
-    ensures answer { refusal_of result ≡ (frame_ended (kind_of D.facts C.lasting (C.site cells.old)) (state_of control.old unselected) frame.now).refusal }
-    ensures control { state_of control.new unselected ≡ (ended_out (frame_ended (kind_of D.facts C.lasting (C.site cells.old)) (state_of control.old unselected) frame.now)).state }
-    ensures done { Done (kind_of D.facts C.lasting (C.site cells.old)) (frame_ended (kind_of D.facts C.lasting (C.site cells.old)) (state_of control.old unselected) frame.now).events (C.images cells.old) (C.site cells.old) (C.images cells.new) (C.site cells.new) }
+    requires { (length frame.now ≡ D.facts.address_bytes + 66) × Fits size (C.site cells.old) }
+    ensures { Ends D.facts C.Cells (ends_frame (kind D.facts C.Cells cells.old) control.old frame.now) cells.old result control.new cells.new }
 {
     control.latch = false;
-    if !fits::<D>(frame, size) {
+    let Frame { place, data, sum } = parts::<D>(frame, size);
+    if crc::page_sum(address_bytes::<D>(), size, place, data) != sum {
         control.failed = true;
         return Err(Refusal::WrongSum);
     }
-    let k = D::address_length();
-    let place = modulo(&frame[0..k], size);
-    if accept::<D, C>(
-        cells,
-        control.status_bits,
-        place / 64,
-        (place % 64) as u8,
-        &frame[k..k + 64],
-    ) {
-        return Err(Refusal::Protected);
-    }
+    let offset = (place % 64) as u8;
+    accept::<D, C>(cells, control.status_bits, place / 64, offset, data)?;
     control.failed = false;
     control.written = true;
     Ok(())
@@ -156,12 +131,10 @@ pub fn end<D: Dialect, C: Cells>(
     size: u32,
     clocks: u8,
 ) -> Result<(), Refusal>
-    ensures answer { size ≡ 64 * (C.site cells.old).pages → 64 ≤ size → refusal_of result ≡ (ended (kind_of D.facts C.lasting (C.site cells.old)) (state_of control.old unselected) (phase_of phase.now) clocks).refusal }
-    ensures control { size ≡ 64 * (C.site cells.old).pages → 64 ≤ size → state_of control.new unselected ≡ (ended_out (ended (kind_of D.facts C.lasting (C.site cells.old)) (state_of control.old unselected) (phase_of phase.now) clocks)).state }
-    ensures done { size ≡ 64 * (C.site cells.old).pages → 64 ≤ size → Done (kind_of D.facts C.lasting (C.site cells.old)) (ended (kind_of D.facts C.lasting (C.site cells.old)) (state_of control.old unselected) (phase_of phase.now) clocks).events (C.images cells.old) (C.site cells.old) (C.images cells.new) (C.site cells.new) }
-    ensures misfit { (size ≡ 64 * (C.site cells.old).pages → 64 ≤ size → ⊥) → Denied (refusal_of result) control.old control.new (C.images cells.old) (C.images cells.new) (C.site cells.old) (C.site cells.new) }
+    ensures fits { Fits size (C.site cells.old) → Ends D.facts C.Cells (ends (kind D.facts C.Cells cells.old) control.old phase.now clocks) cells.old result control.new cells.new }
+    ensures misfit { (Fits size (C.site cells.old) → ⊥) → Denied C.Cells result control.old control.new cells.old cells.new }
 {
-    if size < 64 || cells.size() != size as usize {
+    if !fits(cells, size) {
         return Err(Refusal::Dead);
     }
     end_sized::<D, C>(control, phase, cells, size, clocks)
@@ -175,22 +148,13 @@ fn end_sized<D: Dialect, C: Cells>(
     size: u32,
     clocks: u8,
 ) -> Result<(), Refusal>
-    requires { (size ≡ 64 * (C.site cells.old).pages) × (64 ≤ size) }
-    ensures answer { refusal_of result ≡ (ended (kind_of D.facts C.lasting (C.site cells.old)) (state_of control.old unselected) (phase_of phase.now) clocks).refusal }
-    ensures control { state_of control.new unselected ≡ (ended_out (ended (kind_of D.facts C.lasting (C.site cells.old)) (state_of control.old unselected) (phase_of phase.now) clocks)).state }
-    ensures done { Done (kind_of D.facts C.lasting (C.site cells.old)) (ended (kind_of D.facts C.lasting (C.site cells.old)) (state_of control.old unselected) (phase_of phase.now) clocks).events (C.images cells.old) (C.site cells.old) (C.images cells.new) (C.site cells.new) }
+    requires { Fits size (C.site cells.old) }
+    ensures { Ends D.facts C.Cells (ends (kind D.facts C.Cells cells.old) control.old phase.now clocks) cells.old result control.new cells.new }
 {
+    control.latch &= !phase.names_write();
     match phase {
         Phase::Opcode => Err(Refusal::NoByte),
-        Phase::TurnedAway {
-            refusal,
-            names_write,
-        } => {
-            if *names_write {
-                control.latch = false;
-            }
-            Err(*refusal)
-        }
+        Phase::TurnedAway { refusal, .. } => Err(*refusal),
         Phase::Command {
             instruction,
             followed,
@@ -200,41 +164,27 @@ fn end_sized<D: Dialect, C: Cells>(
             Ok(())
         }
         Phase::ReadingStatus | Phase::Reading { .. } | Phase::ReadingSecure { .. } => Ok(()),
-        Phase::WritingStatus { count, first } => {
-            control.latch = false;
-            whole(*count == 1, clocks)?;
-            control.status_bits = status::update::<D>(*first);
+        Phase::WritingStatus(bytes) => {
+            let StatusBytes::One(byte) = bytes else {
+                return Err(Refusal::WrongLength);
+            };
+            whole(true, clocks)?;
+            control.status_bits = status::update::<D>(*byte);
             Ok(())
         }
-        Phase::Address { instruction, .. } => {
-            if !is_write(*instruction) {
-                return Ok(());
-            }
-            control.latch = false;
-            Err(Refusal::WrongLength)
-        }
+        Phase::Address { instruction, .. } if !is_write(*instruction) => Ok(()),
+        Phase::Address { .. } | Phase::FrameTooLong => Err(Refusal::WrongLength),
         Phase::WritingPaged(write) => {
-            control.latch = false;
             whole(write.any, clocks)?;
             end_paged::<D, C>(control, write, cells)
         }
         Phase::WritingDirect(write) => {
-            control.latch = false;
             whole(write.any, clocks)?;
-            if write.blocked {
-                Err(Refusal::Protected)
-            } else {
-                Ok(())
-            }
+            unblocked(write.blocked)
         }
         Phase::Frame { held } => {
-            control.latch = false;
-            whole(held.count() == D::address_length() + 66, clocks)?;
-            end_frame::<D, C>(control, held.bytes(), cells, size)
-        }
-        Phase::FrameTooLong => {
-            control.latch = false;
-            Err(Refusal::WrongLength)
+            whole(held.len() == frame_length::<D>(), clocks)?;
+            end_frame::<D, C>(control, held.as_slice(), cells, size)
         }
     }
 }

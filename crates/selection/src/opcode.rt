@@ -1,12 +1,11 @@
 // The first byte of a selection: the opcode, and whether it is turned away.
 ghost use Rattle.std.specs.Prelude.{◌≡◌};
-ghost use Rattle.rules.specs.Opcode.{is_write, begin, known, opened, named};
+ghost use Rattle.rules.specs.Opcode.{is_write, begin, opened, named};
 ghost use Rattle.rules.specs.State.{turned_away};
 ghost use Rattle.refusal.specs.declared.Refusal.TheVariants.{Busy};
 ghost use Rattle.selection.specs.View.{phase_of};
 
-use crate::held::Held;
-use crate::phase::Phase;
+use crate::phase::{Held, Phase, StatusBytes};
 use dialect::{Dialect, Instruction};
 use refusal::Refusal;
 use rules::Activity;
@@ -15,10 +14,10 @@ use rules::Activity;
 pub(crate) fn is_write(instruction: Instruction) -> bool
     ensures { result ≡ is_write instruction }
 {
-    match instruction {
-        Instruction::WriteStatus | Instruction::Write | Instruction::SecureWrite => true,
-        _ => false,
-    }
+    matches!(
+        instruction,
+        Instruction::WriteStatus | Instruction::Write | Instruction::SecureWrite
+    )
 }
 
 // The phase in which an accepted instruction begins.
@@ -27,7 +26,7 @@ fn begin(instruction: Instruction) -> Phase
 {
     match instruction {
         Instruction::ReadStatus => Phase::ReadingStatus,
-        Instruction::WriteStatus => Phase::WritingStatus { count: 0, first: 0 },
+        Instruction::WriteStatus => Phase::WritingStatus(StatusBytes::Nothing),
         Instruction::Read | Instruction::Write | Instruction::SecureRead => Phase::Address {
             instruction,
             held: Held::new(),
@@ -44,13 +43,9 @@ fn begin(instruction: Instruction) -> Phase
 fn busy(instruction: Option<Instruction>) -> Phase
     ensures { phase_of result ≡ turned_away Busy (named is_write instruction) }
 {
-    let names_write = match instruction {
-        Some(i) => is_write(i),
-        None => false,
-    };
     Phase::TurnedAway {
         refusal: Refusal::Busy,
-        names_write,
+        names_write: instruction.is_some_and(is_write),
     }
 }
 
@@ -62,10 +57,8 @@ pub(crate) fn open<D: Dialect>(activity: Activity, latch: bool, opcode: u8) -> P
     let named = D::decode(opcode);
     match (activity, named) {
         (Activity::Waking(_), _) => busy(named),
-        (Activity::Storing(_), None) => busy(named),
-        (Activity::Recalling(_), None) => busy(named),
-        (Activity::Storing(_), Some(i)) if i != Instruction::ReadStatus => busy(named),
-        (Activity::Recalling(_), Some(i)) if i != Instruction::ReadStatus => busy(named),
+        (Activity::Storing(_) | Activity::Recalling(_), _)
+            if named != Some(Instruction::ReadStatus) => { busy(named) }
         (_, None) => Phase::TurnedAway {
             refusal: Refusal::UnknownOpcode,
             names_write: false,

@@ -1,10 +1,18 @@
 // How far a selection has come. Bytes under hold do not count.
-use crate::held::Held;
+ghost use Rattle.std.specs.Prelude.{◌≡◌, ◌+◌, min, nat_eq, if◌then◌else◌};
+ghost use Rattle.selection.specs.View.{count_of, first_of, names_write};
+
+use crate::opcode::is_write;
 use crate::writing::{DirectWrite, PageWrite};
+use arrayvec::ArrayVec;
 use dialect::Instruction;
 use refusal::Refusal;
 
-#[derive(Clone, Copy)]
+// The bytes that a selection holds on to, in the order of sending: of an address, of a page, or of a secure frame. A frame is the
+// longest, with 3 address bytes, 64 data bytes and 2 of the sum. They lie in the value itself: nothing is allocated in a call.
+pub type Held = ArrayVec<u8, 69>;
+
+#[derive(Clone, Drop)]
 pub enum Phase {
     // No byte came yet: the next one is the opcode.
     Opcode,
@@ -19,12 +27,8 @@ pub enum Phase {
         followed: bool,
     },
     ReadingStatus,
-    // How many data bytes came, where 2 stands for any more, and the first of them.
-    WritingStatus {
-        count: u8,
-        first: u8,
-    },
-    // Read, write or secure read: the address bytes so far.
+    WritingStatus(StatusBytes),
+    // Read, write or secure read: the address bytes so far. The last of them ends the phase.
     Address {
         instruction: Instruction,
         held: Held,
@@ -33,7 +37,7 @@ pub enum Phase {
     Reading {
         at: u32,
     },
-    // The address, and how many bytes were driven, where 66 stands for any more.
+    // The address, and how many bytes were driven, of the 66 that there are.
     ReadingSecure {
         from: u32,
         driven: u8,
@@ -48,9 +52,41 @@ pub enum Phase {
     FrameTooLong,
 }
 
-// Whether the part is selected, and how far that selection has come.
+impl Phase {
+    // Whether this is the selection of a write, whose release clears the latch, done or refused.
+    pub(crate) fn names_write(&self) -> bool
+        ensures { result ≡ names_write self.now }
+    {
+        match self {
+            Phase::TurnedAway { names_write, .. } => *names_write,
+            Phase::Address { instruction, .. } => is_write(*instruction),
+            Phase::WritingStatus(_)
+            | Phase::WritingPaged(_)
+            | Phase::WritingDirect(_)
+            | Phase::Frame { .. }
+            | Phase::FrameTooLong => true,
+            _ => false,
+        }
+    }
+}
+
+// The data bytes of a status write so far. Of several only the first is kept: their number alone makes the write wrong.
 #[derive(Clone, Copy)]
-pub enum Selection {
-    Unselected,
-    Selected(Phase),
+pub enum StatusBytes {
+    Nothing,
+    One(u8),
+    More { first: u8 },
+}
+
+impl StatusBytes {
+    // One byte more.
+    pub(crate) fn and(self, byte: u8) -> StatusBytes
+        ensures count { count_of result ≡ min 2 (count_of self + 1) }
+        ensures first { first_of result ≡ (if nat_eq (count_of self) 0 then byte else first_of self) }
+    {
+        match self {
+            StatusBytes::Nothing => StatusBytes::One(byte),
+            StatusBytes::One(first) | StatusBytes::More { first } => StatusBytes::More { first },
+        }
+    }
 }

@@ -1,12 +1,21 @@
 // Putting bytes into the cells, unless they are protected.
-ghost use Rattle.std.specs.Prelude.{◌≡◌, ◌+◌, ◌*◌, ◌%◌, ◌<◌, ◌≤◌, [], ◌∷◌, length};
+ghost use Rattle.std.specs.Prelude.{◌≡◌, [], ◌∷◌, if◌then◌else◌, Some, None, Decides};
+ghost use Rattle.refusal.specs.declared.Refusal.TheVariants.{Protected};
 ghost use Rattle.rules.specs.Kind.{in_range, page_protected};
 ghost use Rattle.rules.specs.State.{put};
 ghost use Rattle.rules.specs.Write.{placed, accepted};
-ghost use Rattle.selection.specs.View.{kind_of, Done};
+ghost use Rattle.selection.specs.View.{kind, DoneTo, Fits, refusal_of};
 
 use cells::Cells;
 use dialect::Dialect;
+use refusal::Refusal;
+
+// Whether a size is that of the cells, and the cells are not empty.
+pub(crate) fn fits<C: Cells>(cells: &C, size: u32) -> bool
+    ensures { Decides result (Fits size (C.site cells.now)) }
+{
+    64 <= size && cells.size() == size as usize
+}
 
 // Whether an address lies in the range that these status bits protect.
 pub(crate) fn is_protected<D: Dialect>(status_bits: u8, size: usize, at: usize) -> bool
@@ -18,14 +27,14 @@ pub(crate) fn is_protected<D: Dialect>(status_bits: u8, size: usize, at: usize) 
 
 // Puts a byte; past the array's end nothing changes.
 pub(crate) fn put<D: Dialect, C: Cells>(cells: &mut C, at: usize, byte: u8)
-    ensures { Done (kind_of D.facts C.lasting (C.site cells.old)) (put at byte ∷ []) (C.images cells.old) (C.site cells.old) (C.images cells.new) (C.site cells.new) }
+    ensures { DoneTo D.facts C.Cells cells.old (put at byte ∷ []) cells.new }
 {
     let _ = cells.put(at, byte);
 }
 
 // Puts bytes into a page, from an offset on, rolling over at the page's end.
 fn place<D: Dialect, C: Cells>(cells: &mut C, page: u32, offset: u8, bytes: &[u8])
-    ensures { Done (kind_of D.facts C.lasting (C.site cells.old)) (placed page offset bytes.now) (C.images cells.old) (C.site cells.old) (C.images cells.new) (C.site cells.new) }
+    ensures { DoneTo D.facts C.Cells cells.old (placed page offset bytes.now) cells.new }
 {
     let base = page as usize * 64;
     let offset = offset as usize;
@@ -34,21 +43,29 @@ fn place<D: Dialect, C: Cells>(cells: &mut C, page: u32, offset: u8, bytes: &[u8
     }
 }
 
-// Accepts a page: puts its bytes in the order of sending, unless the page is protected. Answers whether it is.
+// 14 if some data fell in the protected range.
+pub(crate) fn unblocked(blocked: bool) -> Result<(), Refusal>
+    ensures { refusal_of result ≡ (if blocked then Some Protected else None) }
+{
+    if blocked {
+        return Err(Refusal::Protected);
+    }
+    Ok(())
+}
+
+// Accepts a page: puts its bytes in the order of sending. A protected page is refused with 14, and then nothing changes.
 pub(crate) fn accept<D: Dialect, C: Cells>(
     cells: &mut C,
     status_bits: u8,
     page: u32,
     offset: u8,
     bytes: &[u8],
-) -> bool
-    ensures blocked { result ≡ page_protected (kind_of D.facts C.lasting (C.site cells.old)) status_bits page }
-    ensures done { Done (kind_of D.facts C.lasting (C.site cells.old)) (accepted (kind_of D.facts C.lasting (C.site cells.old)) status_bits page offset bytes.now) (C.images cells.old) (C.site cells.old) (C.images cells.new) (C.site cells.new) }
+) -> Result<(), Refusal>
+    ensures answer { refusal_of result ≡ (if page_protected (kind D.facts C.Cells cells.old) status_bits page then Some Protected else None) }
+    ensures done { DoneTo D.facts C.Cells cells.old (accepted (kind D.facts C.Cells cells.old) status_bits page offset bytes.now) cells.new }
 {
     let size = cells.size();
-    if is_protected::<D>(status_bits, size, page as usize * 64) {
-        return true;
-    }
+    unblocked(is_protected::<D>(status_bits, size, page as usize * 64))?;
     place::<D, C>(cells, page, offset, bytes);
-    false
+    Ok(())
 }

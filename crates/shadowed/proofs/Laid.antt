@@ -1,23 +1,17 @@
 -- What a buffer of two halves holds after its images have changed.
-use Rattle.std.proofs.Common.{◌≡◌, ℕ, ◌+◌, ◌*◌, ◌<◌, ◌≤◌, Bool, true, false, cond, ltb, List, ◌++◌, length, take, drop, set, replicate, sym, refl, ap, ◌∙◌, subst, ap₂, arith}
-use lib.Seq.{take-append-add, drop-append-add}
-use Rattle.std.proofs.lemmas.List.{length-drop, length-append, length-replicate, get_or-replicate, take-append-drop, append_assoc, take_at, drop_at, take-append-le, drop-append-le}
-use Rattle.std.proofs.lemmas.Bool.{cond_below}
+use Rattle.std.proofs.Common.{◌≡◌, ℕ, ◌*◌, ◌/◌, ◌<◌, Bool, true, false, cond, ltb, List, ◌++◌, length, min, take, drop, set, replicate, sym, refl, ap, ◌∙◌, subst, arith}
+use Rattle.std.proofs.lemmas.List.{length-drop, length-append, length-set, length-replicate, get_or-replicate, take-append-drop, take_at, drop_at}
+use Rattle.std.proofs.lemmas.Bool.{cond_both}
 use Rattle.cells.specs.Images.{Images, with_page, after_put, after_keep, after_recall}
 use Rattle.cells.specs.Laws.{Bytes}
-use Rattle.cells.proofs.Front.{bytes}
+use Rattle.cells.proofs.Bytes.{bytes}
 use Rattle.cells.proofs.Pages.{length_page}
 use Rattle.shadowed.specs.Array.{fits, long}
-use Rattle.shadowed.specs.Halves.{pages_in, size_in, halves, behind, Left, copied}
+use Rattle.shadowed.specs.Halves.{pages_in, size_in, halves, behind, Left}
 
 -- two images and what lies behind them, as they lie in a buffer
-abbrev pub laid : Images → List ℕ → List ℕ
+abbrev laid : Images → List ℕ → List ℕ
 laid i rest = i.working ++ (i.kept ++ rest)
-
-pub laid_out : (b : List ℕ) → b ≡ laid (halves b) (behind b)
-unfolding halves behind
-laid_out b =
-    sym (ap (λ rest. take (size_in b) b ++ rest) (take-append-drop (size_in b) (drop (size_in b) b)) ∙ take-append-drop (size_in b) b)
 
 -- the two images and the rest, cut out of a buffer at n and 2 × n
 abbrev cut : ℕ → List ℕ → Images
@@ -53,53 +47,55 @@ unfolding halves behind
 new_working b c w e l =
     left b c _ (e ∙ ap (λ rest. w ++ rest) (sym (take-append-drop (size_in b) (drop (size_in b) b)))) l (long b).1
 
+-- a test between two images is a test between their working ones, or between their kept ones
+working_if : (t : Bool) (w : List ℕ) (i : Images) → record { working = cond t w i.working; kept = i.kept } ≡ cond t (record { working = w; kept = i.kept }) i
+working_if true w i = refl
+working_if false w i = refl
+
+kept_if : (t : Bool) (k : List ℕ) (i : Images) → record { working = i.working; kept = cond t k i.kept } ≡ cond t (record { working = i.working; kept = k }) i
+kept_if true k i = refl
+kept_if false k i = refl
+
 -- a buffer with a byte put into its working image, if that has the address
-apart : (t : Bool) (w : List ℕ) (i : Images) → record { working = cond t w i.working; kept = i.kept } ≡ cond t (record { working = w; kept = i.kept }) i
-apart true w i = refl
-apart false w i = refl
+pub put_into : (b c w : List ℕ) (a v : ℕ) → c ≡ w ++ drop (size_in b) b → w ≡ cond (ltb a (size_in b)) (set (halves b).working a v) (halves b).working → Left b c (after_put false (size_in b) a v (halves b))
+put_into b c w a v e put =
+    let l = (long b).0 in
+    let image = cond_both (ltb a (size_in b)) _ _ (λ x. length x ≡ size_in b) (λ _. length-set (halves b).working a v ∙ l) (λ _. l) in
+    subst (Left b c) (ap (λ x. record { working = x; kept = (halves b).kept }) put ∙ working_if (ltb a (size_in b)) _ (halves b))
+    (new_working b c w e (ap length put ∙ image))
 
-pub put_into : (b c w : List ℕ) (a v : ℕ) → c ≡ w ++ drop (size_in b) b → length w ≡ size_in b → w ≡ cond (ltb a (size_in b)) (set (take (size_in b) b) a v) (take (size_in b) b) → Left b c (after_put false (size_in b) a v (halves b))
-unfolding halves
-put_into b c w a v e l put =
-    subst (Left b c) (ap (λ x. record { working = x; kept = (halves b).kept }) put ∙ apart (ltb a (size_in b)) _ (halves b)) (new_working b c w e l)
+-- an image in which a page of another one was set, if both have the page
+abbrev pub set_page : ℕ → List ℕ → List ℕ → List ℕ
+set_page p other image = cond (ltb p (min (length other) (length image) / 64)) (with_page p other image) image
 
--- Two images, and what lies behind them: 64 bytes are copied from the one to the other, at address a.
-module _ (w k rest : List ℕ) (a : ℕ) (lw : a + 64 ≤ length w) (lk : a + 64 ≤ length k) where
-  within : (x y : List ℕ) → a + 64 ≤ length x → take 64 (drop a (x ++ y)) ≡ take 64 (drop a x)
-  within x y l = ap (take 64) (drop-append-le a x y (omega arith)) ∙ take-append-le 64 (drop a x) y (simp length-drop (omega arith))
+-- two images of n pages
+module _ (n p : ℕ) (other image : List ℕ) (lo : length other ≡ 64 * n) (li : length image ≡ 64 * n) where
+  set_page_is : set_page p other image ≡ cond (ltb p n) (with_page p other image) image
+  set_page_is =
+      let pages : min (length other) (length image) / 64 ≡ n = omega arith in
+      ap (λ m. cond (ltb p m) (with_page p other image) image) pages
 
-  past : (x y : List ℕ) → a + 64 ≤ length x → drop 64 (drop a (x ++ y)) ≡ drop 64 (drop a x) ++ y
-  past x y l = ap (drop 64) (drop-append-le a x y (omega arith)) ∙ drop-append-le 64 (drop a x) y (simp length-drop (omega arith))
+  length_set_page : length (set_page p other image) ≡ 64 * n
+  length_set_page =
+      cond_both (ltb p (min (length other) (length image) / 64)) _ _ (λ x. length x ≡ 64 * n) (λ _. length_page p n other image lo li) (λ _. li)
 
-  pub copied_up : copied a (length w + a) (w ++ (k ++ rest)) ≡ w ++ ((take a k ++ (take 64 (drop a w) ++ drop 64 (drop a k))) ++ rest)
-  copied_up =
-      let front = take-append-le a k rest (omega arith) in
-      simp (take-append-add w (k ++ rest) a, drop-append-add w (k ++ rest) a, front, within w (k ++ rest) lw, past k rest lk, append_assoc)
-
-  pub copied_down : copied (length w + a) a (w ++ (k ++ rest)) ≡ (take a w ++ (take 64 (drop a k) ++ drop 64 (drop a w))) ++ (k ++ rest)
-  copied_down =
-      let front = take-append-le a w (k ++ rest) (omega arith) in
-      simp (drop-append-add w (k ++ rest) a, front, within k rest lk, past w (k ++ rest) lw, append_assoc)
-
--- a buffer in which page p was copied from one image to the other
-module _ (b c : List ℕ) (p : ℕ) (lt : p < pages_in (length b)) where
-  pub kept : c ≡ copied (64 * p) (size_in b + 64 * p) b → Left b c (after_keep (pages_in (length b)) p (halves b))
-  unfolding with_page
+-- a buffer in which page p of one image was set to that of the other
+module _ (b c : List ℕ) (p : ℕ) where
+  pub kept : c ≡ (halves b).working ++ (set_page p (halves b).working (halves b).kept ++ behind b) → Left b c (after_keep (pages_in (length b)) p (halves b))
   kept e =
-      let (w, k) = long b in
+      let n = pages_in (length b) in
       let i = halves b in
-      let at : copied (64 * p) (size_in b + 64 * p) b ≡ copied (64 * p) (length i.working + 64 * p) (laid i (behind b)) = ap₂ (λ n x. copied (64 * p) (n + 64 * p) x) (sym w) (laid_out b) in
-      let new = e ∙ at ∙ copied_up i.working i.kept (behind b) (64 * p) (omega arith) (omega arith) in
-      subst (Left b c) (cond_below p (pages_in (length b)) _ _ lt) (left b c _ new w (length_page p (pages_in (length b)) _ _ w k))
+      let (w, k) = long b in
+      subst (Left b c) (ap (λ x. record { working = i.working; kept = x }) (set_page_is n p i.working i.kept w k) ∙ kept_if (ltb p n) _ i)
+      (left b c _ e w (length_set_page n p i.working i.kept w k))
 
-  pub recalled : c ≡ copied (size_in b + 64 * p) (64 * p) b → Left b c (after_recall (pages_in (length b)) p (halves b))
-  unfolding with_page
+  pub recalled : c ≡ set_page p (halves b).kept (halves b).working ++ drop (size_in b) b → Left b c (after_recall (pages_in (length b)) p (halves b))
   recalled e =
-      let (w, k) = long b in
+      let n = pages_in (length b) in
       let i = halves b in
-      let at : copied (size_in b + 64 * p) (64 * p) b ≡ copied (length i.working + 64 * p) (64 * p) (laid i (behind b)) = ap₂ (λ n x. copied (n + 64 * p) (64 * p) x) (sym w) (laid_out b) in
-      let new = e ∙ at ∙ copied_down i.working i.kept (behind b) (64 * p) (omega arith) (omega arith) in
-      subst (Left b c) (cond_below p (pages_in (length b)) _ _ lt) (left b c _ new (length_page p (pages_in (length b)) _ _ k w) k)
+      let (w, k) = long b in
+      subst (Left b c) (ap (λ x. record { working = x; kept = i.kept }) (set_page_is n p i.kept i.working k w) ∙ working_if (ltb p n) _ i)
+      (new_working b c _ e (length_set_page n p i.kept i.working k w))
 
 -- a buffer whose working image was filled with one value
 pub filled : (n v : ℕ) → v < 256 → Bytes n (replicate n v)

@@ -1,5 +1,5 @@
 -- Shadowed cells lie in a lent buffer of 2 × N bytes: first the working image, then the kept image.
-use Rattle.std.specs.Prelude.{◌≡◌, ℕ, ◌*◌, ◌/◌, ◌%◌, cond, List, ◌++◌, length, take, drop, ◌==◌}
+use Rattle.std.specs.Prelude.{◌≡◌, ℕ, ◌*◌, ◌/◌, ◌%◌, cond, List, length, take, drop, ◌==◌}
 use Rattle.cells.specs.Images.{Images}
 use Rattle.cells.specs.Sizes.{pages_for}
 
@@ -26,7 +26,3 @@ behind buffer = drop (size_in buffer) (drop (size_in buffer) buffer)
 pub record Left (before after : List ℕ) (left : Images) : Type 0 where
   pub images : halves after ≡ left
   pub behind : behind after ≡ behind before
-
--- a buffer after the 64 bytes from `from` on were copied to `to` and on
-abbrev pub copied : ℕ → ℕ → List ℕ → List ℕ
-copied from to buffer = take to buffer ++ (take 64 (drop from buffer) ++ drop 64 (drop to buffer))

@@ -1,30 +1,13 @@
-// The six calls on a buffer of two halves: the working image, then the kept image.
+// The six calls on a buffer of two halves: the working image, then the kept image. They are functions over the slice and no
+// methods, since a proof does not know what a write leaves in a slice that is a struct's field.
 ghost use Rattle.std.specs.Prelude.{◌≡◌, ◌+◌, ◌<◌, ◌≤◌, false, ◌++◌, length, drop, replicate};
 ghost use Rattle.refusal.specs.Numbers.{numbered};
 ghost use Rattle.cells.specs.Images.{got, address_answer, page_answer, after_put, after_keep, after_recall};
 ghost use Rattle.cells.specs.Laws.{Bytes};
-ghost use Rattle.shadowed.specs.Halves.{pages_in, size_in, halves, Left, copied};
+ghost use Rattle.shadowed.specs.Halves.{pages_in, size_in, halves, Left};
 
-use cells::{PAGE, image, size_for};
+use cells::{image, size_for};
 use refusal::Refusal;
-
-// Copies the page that begins at `from` over the page that begins at `to`.
-fn copy_page(bytes: &mut [u8], from: usize, to: usize)
-    requires { (from + 64 ≤ length bytes.old) × (to + 64 ≤ length bytes.old) }
-    ensures { bytes.new ≡ copied from to bytes.old }
-{
-    let mut page = [0; PAGE];
-    page.copy_from_slice(&bytes[from..from + PAGE]);
-    bytes[to..to + PAGE].copy_from_slice(&page);
-}
-
-// Fills the first bytes with one value.
-fn fill_front(bytes: &mut [u8], end: usize, value: u8)
-    requires { end ≤ length bytes.old }
-    ensures { bytes.new ≡ replicate end value ++ drop end bytes.old }
-{
-    bytes[0..end].fill(value);
-}
 
 // The size of each image: half of the buffer's length. If the length is odd, or its half no size of an array, it is 0.
 pub fn size(bytes: &[u8]) -> usize
@@ -44,8 +27,7 @@ pub fn size(bytes: &[u8]) -> usize
 pub fn get(bytes: &[u8], at: usize) -> Result<u8, Refusal>
     ensures { numbered result ≡ got (size_in bytes.now) at (halves bytes.now).working }
 {
-    let size = size(bytes);
-    image::get(&bytes[0..size], at)
+    image::get(&bytes[..size(bytes)], at)
 }
 
 // Sets the working byte at an address. An address past the end is refused with 41, and nothing changes.
@@ -54,7 +36,7 @@ pub fn put(bytes: &mut [u8], at: usize, byte: u8) -> Result<(), Refusal>
     ensures left { Left bytes.old bytes.new (after_put false (size_in bytes.old) at byte (halves bytes.old)) }
 {
     let size = size(bytes);
-    image::put(&mut bytes[0..size], at, byte)
+    image::put(&mut bytes[..size], at, byte)
 }
 
 // Sets a page of the kept image to that page of the working image. A page past the end is refused with 42, and nothing
@@ -64,11 +46,8 @@ pub fn keep(bytes: &mut [u8], page: usize) -> Result<(), Refusal>
     ensures left { Left bytes.old bytes.new (after_keep (pages_in (length bytes.old)) page (halves bytes.old)) }
 {
     let size = size(bytes);
-    if page >= size / PAGE {
-        return Err(Refusal::PagePastEnd);
-    }
-    copy_page(bytes, PAGE * page, size + PAGE * page);
-    Ok(())
+    let (working, rest) = bytes.split_at_mut(size);
+    image::copy_page(working, &mut rest[..size], page)
 }
 
 // Sets a page of the working image to that page of the kept image. A page past the end is refused with 42, and nothing
@@ -78,11 +57,8 @@ pub fn recall(bytes: &mut [u8], page: usize) -> Result<(), Refusal>
     ensures left { Left bytes.old bytes.new (after_recall (pages_in (length bytes.old)) page (halves bytes.old)) }
 {
     let size = size(bytes);
-    if page >= size / PAGE {
-        return Err(Refusal::PagePastEnd);
-    }
-    copy_page(bytes, size + PAGE * page, PAGE * page);
-    Ok(())
+    let (working, rest) = bytes.split_at_mut(size);
+    image::copy_page(&rest[..size], working, page)
 }
 
 // Fills the working image with one value, and leaves the kept image.
@@ -91,5 +67,5 @@ pub fn fade(bytes: &mut [u8], value: u8)
     ensures bytes { Bytes (size_in bytes.old) (halves bytes.new).working }
 {
     let size = size(bytes);
-    fill_front(bytes, size, value);
+    bytes[..size].fill(value);
 }

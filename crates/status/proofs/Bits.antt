@@ -1,45 +1,19 @@
 -- Masks, and sums of bits that do not collide.
 -- Assumes nothing.
-use Rattle.std.proofs.Common.{◌≡◌, ℕ, zero, suc, ◌+◌, ◌-◌, ◌*◌, ◌/◌, ◌%◌, ◌^◌, ◌<◌, Bool, true, false, cond, sym, refl, ap, ◌∙◌, ⊎_elim, arith}
-use lib.Arith.{bin_ind}
-use lib.Bits.{bit_and, bit_or, and_shr, and_mod, and_self, and_zero_r, and_mask, or_disjoint, or_shifted}
-use Rattle.std.proofs.lemmas.Nat.{pow-add, shr_split}
+use Rattle.std.proofs.Common.{◌≡◌, ℕ, ◌+◌, ◌-◌, ◌*◌, ◌/◌, ◌%◌, ◌^◌, ◌<◌, Bool, true, false, cond, sym, refl, ap, ◌∙◌, ⊎_elim, arith}
+use lib.Bits.{bit_and, bit_or, and_self, and_zero_r, and_mask, or_disjoint, or_shifted}
+use Rattle.std.proofs.lemmas.Nat.{pow-add, shr_split, and_assoc}
 use Rattle.dialect.specs.Facts.{Facts, Lawful, Within, OneBitAbove2}
 use Rattle.status.specs.Status.{Apart}
 
--- `&` goes digit by digit, and is associative on digits, so it is on numbers
-half_and : (a b : ℕ) → bit_and a b / 2 ≡ bit_and (a / 2) (b / 2)
-half_and a b = and_shr a b 1
-
-digit_and : (a b : ℕ) → bit_and a b % 2 ≡ bit_and (a % 2) (b % 2)
-digit_and a b = and_mod a b 1
-
-digit_assoc : (x y z : ℕ) → x < 2 → y < 2 → z < 2 → bit_and (bit_and x y) z ≡ bit_and x (bit_and y z)
-digit_assoc zero y z hx hy hz = refl
-digit_assoc (suc zero) zero z hx hy hz = refl
-digit_assoc (suc zero) (suc zero) zero hx hy hz = refl
-digit_assoc (suc zero) (suc zero) (suc zero) hx hy hz = refl
-digit_assoc (suc zero) (suc zero) (suc (suc z)) hx hy hz = absurd (omega arith)
-digit_assoc (suc zero) (suc (suc y)) z hx hy hz = absurd (omega arith)
-digit_assoc (suc (suc x)) y z hx hy hz = absurd (omega arith)
-
-and_assoc : (a b c : ℕ) → bit_and (bit_and a b) c ≡ bit_and a (bit_and b c)
-and_assoc =
-    bin_ind (λ (a : ℕ). (b c : ℕ) → bit_and (bit_and a b) c ≡ bit_and a (bit_and b c)) (λ b c. refl)
-    (λ a half b c.
-    let high : bit_and (bit_and a b) c / 2 ≡ bit_and a (bit_and b c) / 2 = simp half_and (half (b / 2) (c / 2)) in
-    let low : bit_and (bit_and a b) c % 2 ≡ bit_and a (bit_and b c) % 2 =
-    simp digit_and (digit_assoc (a % 2) (b % 2) (c % 2) (omega arith) (omega arith) (omega arith)) in
-    omega arith)
-
 -- masking again changes nothing
 pub masked_twice : (x m : ℕ) → bit_and (bit_and x m) m ≡ bit_and x m
-masked_twice x m = and_assoc x m m ∙ ap (bit_and x) (and_self m)
+masked_twice x m = and_assoc m x m ∙ ap (bit_and x) (and_self m)
 
 -- what lies within a mask misses what the mask misses
 misses : (x m y : ℕ) → bit_and x m ≡ x → bit_and m y ≡ 0 → bit_and x y ≡ 0
 misses x m y within missed =
-    ap (λ (z : ℕ). bit_and z y) (sym within) ∙ and_assoc x m y ∙ ap (bit_and x) missed ∙ and_zero_r x
+    ap (λ (z : ℕ). bit_and z y) (sym within) ∙ and_assoc y x m ∙ ap (bit_and x) missed ∙ and_zero_r x
 
 -- the value of a bit above 2 misses the two low bits
 above_2 : (value : ℕ) → OneBitAbove2 value → bit_and value 3 ≡ 0

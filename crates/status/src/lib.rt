@@ -15,8 +15,8 @@ use dialect::Dialect;
 pub fn assemble<D: Dialect>(status_bits: u8, fail_mark: bool, latch: bool, idle: bool) -> u8
     ensures { result ≡ status_byte D.facts (mask_bits D.facts status_bits) fail_mark latch idle }
 {
-    let kept = masked(status_bits, D::mask());
-    let fail = fail_part::<D>(fail_mark);
+    let kept = update::<D>(status_bits);
+    let fail = if fail_mark { D::fail_bit() } else { 0 };
     join(kept, fail, latch, idle)
 }
 
@@ -25,7 +25,7 @@ pub fn update<D: Dialect>(byte: u8) -> u8
     ensures value { result ≡ mask_bits D.facts byte }
     ensures within { Within D.facts result }
 {
-    masked(byte, D::mask())
+    byte & D::mask()
 }
 
 // Holds the law that no two parts of a status byte have a bit in common, in any dialect.
@@ -33,24 +33,10 @@ pub fn bits_never_collide()
     ensures { BitsNeverCollide }
 {}
 
-// The fail bit if the fail mark is set, else 0.
-fn fail_part<D: Dialect>(fail_mark: bool) -> u8
-    ensures { result ≡ cond fail_mark D.facts.fail_bit 0 }
-{
-    if fail_mark { D::fail_bit() } else { 0 }
-}
-
-fn masked(byte: u8, mask: u8) -> u8
-    ensures value { result ≡ bit_and byte mask }
-    ensures within { bit_and result mask ≡ result }
-{
-    byte & mask
-}
-
 // Joined bit by bit, parts that have no bit in common are their sum.
 fn join(status_bits: u8, fail: u8, latch: bool, idle: bool) -> u8
     requires { Apart status_bits fail }
     ensures { result ≡ status_bits + fail + (if latch then 2 else 0) + (if idle then 0 else 1) }
 {
-    status_bits | fail | ((latch as u8) << 1 | !idle as u8)
+    status_bits | fail | (u8::from(latch) << 1 | u8::from(!idle))
 }

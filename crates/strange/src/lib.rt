@@ -1,12 +1,9 @@
 // A lawful dialect that no maker sells, and the unlawful ones that the laws shut out: a test of the trait `Dialect`.
 #![tactic(auto)]
 
-ghost use Rattle.strange.specs.Strange.{strange};
-ghost use Rattle.strange.specs.Unlawful.{ShutOut};
-ghost use Rattle.std.proofs.Common.{inr, rules, arith};
 ghost use Rattle.std.specs.Prelude.{refl};
-ghost use Rattle.std.proofs.lemmas.Nat.Bits.{and_high};
-ghost use Rattle.std.proofs.lemmas.Bool.Decides.{nat_tests};
+ghost use Rattle.strange.specs.Strange.{strange, strange_is_lawful};
+ghost use Rattle.strange.specs.Unlawful.{ShutOut};
 
 use dialect::{Dialect, Instruction};
 
@@ -18,30 +15,17 @@ impl Dialect for Strange {
 
     const ADDRESS_BYTES: usize = 2;
 
+    ghost ADDRESS_BYTES = { strange.address_bytes };
+
     const LARGEST: usize = 65_536;
 
-    ghost lawful = { record {
-      address_has_2_or_3_bytes = Prim.search rules;
-      largest_is_within_the_limit = Prim.search rules;
-      largest_is_within_the_address = Prim.search rules;
-      mask_is_a_byte = Prim.search rules;
-      mask_lacks_bits_1_and_0 = refl;
-      fail_bit_is_one_bit_above_2_or_0 = inr refl;
-      fail_bit_is_outside_the_mask = refl;
-      direct_has_no_fail_bit = λ direct. refl;
-      no_secure_write_without_fail_bit = λ none opcode named. Prim.grind (arith, nat_tests);
-      range_is_ordered = λ R N within alive. let top = and_high R 1 7 in Prim.grind (arith, nat_tests);
-      range_lies_in_the_array = λ R N within alive. let top = and_high R 1 7 in Prim.grind (arith, nat_tests);
-      paged_range_is_whole_pages = Prim.search rules;
-    } };
+    ghost LARGEST = { strange.largest };
 
-    fn address_length() -> usize {
-        Self::ADDRESS_BYTES
-    }
+    ghost address_bytes_is = { refl };
 
-    fn largest_size() -> usize {
-        Self::LARGEST
-    }
+    ghost largest_is = { refl };
+
+    ghost lawful = { strange_is_lawful };
 
     fn decode(opcode: u8) -> Option<Instruction> {
         match opcode {

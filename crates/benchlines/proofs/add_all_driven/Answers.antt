@@ -1,24 +1,13 @@
-use Rattle.std.proofs.Common.{◌++◌, vec_items, ap, ◌∙◌, arith}
-use Rattle.std.proofs.lemmas.List.{take_all, get_or_default}
-use Rattle.benchlines.specs.Lines.{all_driven_text}
-use Rattle.benchlines.proofs.Driven.{text_more}
+use Rattle.std.proofs.Common.{arith}
+use Rattle.std.proofs.lemmas.List.{get_or_default}
+use Rattle.benchlines.proofs.Driven.{driven_more, driven_long, added_on}
 use Rattle.benchlines.proofs.add_all_driven.Goals as goal
 
-pub add_driven-requires : goal.add_driven-requires
-add_driven-requires c = omega arith
-
 pub loop-at_byte-preserved : goal.loop-at_byte-preserved
-loop-at_byte-preserved c = (
-  text_more (vec_items c.args.out.now) (vec_items c.loop-at_byte.out) _ c.args.driven.now c.loop-at_byte.at_byte-index _ c.loop-at_byte-test.true
-      (get_or_default c.args.driven.now c.loop-at_byte.at_byte-index _ _ c.loop-at_byte-test.true) c.loop-at_byte.invariant.0 c.add_driven.ensures.items,
-  omega (arith, c.add_driven.ensures.len),
-  c.add_driven.ensures.capacity ∙ c.loop-at_byte.invariant.2,
-)
-
-pub returns : goal.returns
-returns c = record {
-  items = c.loop-at_byte.invariant.0
-      ∙ ap (λ l. vec_items c.args.out.now ++ all_driven_text l) (take_all c.loop-at_byte.at_byte-index c.args.driven.now c.loop-at_byte-test.false);
-  len = omega arith;
-  capacity = c.loop-at_byte.invariant.2;
-}
+loop-at_byte-preserved c =
+    let driven = c.args.driven.now in
+    let i = c.loop-at_byte.at_byte-index in
+    let is = get_or_default driven i _ _ c.loop-at_byte-test.true in record {
+      added = rw (driven_more driven i _ c.loop-at_byte-test.true is) (added_on c.loop-at_byte.invariant.added c.add_driven.ensures);
+      len = omega (arith, driven_long);
+    }

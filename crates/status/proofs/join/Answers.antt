@@ -13,4 +13,4 @@ by_low_bits R fail apart false true = joined R fail 0 apart (omega arith) ∙ om
 by_low_bits R fail apart false false = joined R fail 1 apart (omega arith) ∙ omega arith
 
 pub returns : goal.returns
-returns c = by_low_bits c.args.status_bits c.args.fail c.requires c.args.latch c.args.idle
+returns c = let e = by_low_bits c.args.status_bits c.args.fail c.requires c.args.latch c.args.idle in cc

@@ -1,6 +1,6 @@
 use Rattle.std.proofs.Common.{ℕ, ◌<◌, get_or, refl, arith, rules}
 use Rattle.std.proofs.lemmas.List.{get_or-take}
-use Rattle.cells.proofs.Front.{bytes}
+use Rattle.cells.proofs.Bytes.{bytes}
 use Rattle.lasting.specs.Array.{long}
 use Rattle.lasting.specs.Whole.{size_in, whole}
 use Rattle.lasting.proofs.whole.fade.Goals as goal

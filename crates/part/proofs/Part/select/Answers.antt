@@ -1,25 +1,13 @@
-use Rattle.std.proofs.Common.{None, Err, sym, ap, ◌∙◌, subst}
+use Rattle.std.proofs.Common.{refl}
 use Rattle.std.proofs.lemmas.Result.{err_from_is_err_and}
 use Rattle.rules.specs.declared.Call.TheVariants.{Select}
-use Rattle.promises.specs.Served.{Served}
-use Rattle.part.specs.View.{whole_of, answered}
-use Rattle.part.proofs.Serving.{refused_serves, on_serves, select_is_not_power_up}
+use Rattle.part.proofs.Serving.{served, turned_away}
 use Rattle.part.proofs.Part.select.Goals as goal
 
 pub returns-in_err-ready : goal.returns-in_err-ready
 returns-in_err-ready g c =
-    let m = g.C.Cells in
-    let was = c.args.self.now in
-    let w = whole_of g.D.Dialect.facts m.lasting (m.site was.cells) (m.images was.cells) was.control was.selection in
     let p = err_from_is_err_and c.from_residual.result c.from_residual.ensures.1 in
-    subst (λ r. Served Select w (answered r) (None) w) (sym (p.1 ∙ ap Err p.2))
-    (refused_serves g.met.D.Dialect.lawful (c.in_err-ready.ensures.0 Select (select_is_not_power_up)))
+    rw (p.1, p.2) (turned_away Select g.met.D.Dialect.lawful c.in_err-ready.ensures refl)
 
 pub returns : goal.returns
-returns g c =
-    let m = g.C.Cells in
-    let was = c.args.self.now in
-    let now = c.begin.new.self in
-    on_serves g.D.Dialect.facts m.lasting (m.site was.cells) (m.site now.cells) (m.images was.cells) (m.images now.cells)
-    was.control now.control was.selection now.selection Select _ _ _ g.met.D.Dialect.lawful
-    (c.in_ok-ready.ensures.0 Select) c.begin.ensures
+returns g c = served g.met.D.Dialect.lawful c.in_ok-ready.ensures (c.begin.ensures c.in_ok-ready.field-0.activity)

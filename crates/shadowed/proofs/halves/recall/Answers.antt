@@ -1,15 +1,7 @@
-use Rattle.std.proofs.Common.{◌+◌, ◌*◌, ◌<◌, length, ap, ◌∙◌, arith}
-use Rattle.std.proofs.lemmas.Bool.{cond_below}
-use Rattle.shadowed.specs.Halves.{pages_in, copied}
+use Rattle.shadowed.specs.Halves.{halves}
 use Rattle.shadowed.proofs.Laid.{recalled}
 use Rattle.shadowed.proofs.halves.recall.Goals as goal
 
-pub returns : goal.returns
-returns c =
-    let b = c.args.bytes.now in
-    let p = c.args.page in
-    let lt : p < pages_in (length b) = omega arith in
-    record {
-      answer = cond_below p (pages_in (length b)) _ _ lt;
-      left = recalled b _ p lt (c.copy_page.ensures ∙ ap (λ n. copied (n + 64 * p) (64 * p) b) c.size-size.ensures.size);
-    }
+pub returns-clause-left : goal.returns-clause-left
+unfolding halves
+returns-clause-left c = recalled c.args.bytes.now _ c.args.page (cc)

@@ -1,16 +1,21 @@
-use Rattle.std.proofs.Common.{vec_items}
-use Rattle.part.specs.Whole.{whole}
-use Rattle.replay.proofs.Playing.{located_ran}
+use Rattle.std.proofs.Common.{◌≡◌, vec_items, arith}
+use Rattle.std.proofs.lemmas.Grind.{common_steps}
+use Rattle.benchlines.specs.Lines.{line_text}
+use Rattle.runfile.specs.Reader.{found_seen}
+use Rattle.replay.specs.Ran.{state_of}
+use Rattle.replay.specs.Played.{Came, in_file, line_of}
+use Rattle.replay.proofs.Playing.{placed, located_ran}
 use Rattle.replay.proofs.bench.Bench.play_record.Goals as goal
 
 pub returns : goal.returns
 returns g c =
-    let m = g.C.Cells in
-    let f = g.D.Dialect.facts in
-    let was = c.args.self.now in
     let now = c.run.new.self in
     let found = c.args.found in
-    located_ran c.add_line.result (record { spot = found.spot; bytes = found.bytes.now }) (record { outcome = c.in_ok-outcome.outcome; driven = vec_items now.driven })
-    (vec_items c.args.out.now) _ was.held now.held (whole f m.lasting m.site m.images was.part) (whole f m.lasting m.site m.images now.part)
-    c.of-letter.result c.placed-result.result c.driven.result.now
-    c.in_ok-outcome.ensures.ran c.of-letter.ensures c.placed-result.ensures c.driven.ensures c.add_line.ensures.items
+    let came : Came = record { outcome = c.in_ok-run.field-0; driven = vec_items now.driven } in
+    let in_place : c.map_err-result.result ≡ in_file found.spot came.outcome =
+    placed _ found.spot came.outcome c.map_err-result.result c.map_err-result.ensures.cases (λ e f told. grind (arith, common_steps, told)) in
+    let line : line_text found.spot.number c.of-letter.result c.map_err-result.result c.driven.result.now ≡ line_of (found_seen found) came =
+    rw (c.of-letter.ensures, in_place, c.driven.ensures) in
+    located_ran c.add_line.result (found_seen found) came (vec_items c.args.out.now) _
+    (state_of g.D.Dialect g.C.Cells c.args.self.now) (state_of g.D.Dialect g.C.Cells now)
+    _ c.in_ok-run.ensures.ran line c.add_line.ensures.items

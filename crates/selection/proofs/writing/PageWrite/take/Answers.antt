@@ -1,9 +1,6 @@
-use Rattle.std.proofs.Common.{false, cond, drop, sym, ap, ◌∙◌, subst}
-use Rattle.rules.specs.Step.{marked}
-use Rattle.rules.specs.Byte.{Heard}
+use Rattle.std.proofs.Common.{rules, cond, drop, sym, ◌∙◌}
 use Rattle.rules.specs.Write.{is_full}
-use Rattle.selection.specs.Held.{items}
-use Rattle.selection.specs.View.{kind_of, Done}
+use Rattle.selection.specs.View.{kind_of}
 use Rattle.selection.proofs.Turned.{paged_full, marked_accepted}
 use Rattle.selection.proofs.writing.PageWrite.take.Goals as goal
 
@@ -14,12 +11,7 @@ returns-then-full g c =
     let R = c.args.status_bits in
     let was = c.args.self.now in
     let now = c.hold.new.self in
-    let e = paged_full k R was.page was.first (items was.held) was.blocked c.args.byte now.page now.first (items now.held) now.blocked
+    let e = paged_full k R was.page was.first was.held.items was.blocked c.args.byte now.page now.first now.held.items now.blocked
     (sym c.completes-full.ensures ∙ c.if-full.true) c.hold.ensures.page c.hold.ensures.first c.hold.ensures.held c.hold.ensures.blocked in
-    record {
-      phase = c.turn.ensures.phase ∙ sym (ap (λ (h : Heard). h.phase) e);
-      wrote = c.turn.ensures.wrote
-          ∙ marked_accepted k R now.page now.first c.args.byte (cond (is_full (items was.held)) (drop 1 (items was.held)) (items was.held)) (items now.held) c.hold.ensures.held
-          ∙ sym (ap (λ (h : Heard). marked h.events false) e);
-      done = subst (λ (h : Heard). Done k h.events (m.images c.args.cells.now) (m.site c.args.cells.now) (m.images c.turn.new.cells) (m.site c.turn.new.cells)) (sym e) c.turn.ensures.done;
-    }
+    let put = marked_accepted k R now.page now.first c.args.byte (cond (is_full was.held.items) (drop 1 was.held.items) was.held.items) now.held.items c.hold.ensures.held in
+    rw e (search (rules, put))

@@ -1,8 +1,0 @@
--- the bytes so far are added
-use Rattle.std.proofs.Common.{◌≡◌, ◌+◌, ◌++◌, take, vec_items, vec_len, vec_capacity}
-use Rattle.benchlines.proofs.text.add_bytes.Given as goal
-
-abbrev pub invariant-loop-byte : goal.invariant-loop-byte
-invariant-loop-byte l =
-    (vec_items l.out ≡ vec_items l.initial.out ++ take l.byte-index l.bytes)
-    × (vec_len l.out ≡ vec_len l.initial.out + l.byte-index) × (vec_capacity l.out ≡ vec_capacity l.initial.out)
