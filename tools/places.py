@@ -69,7 +69,7 @@ def lines_of_functions():
 
 
 def functions_alike():
-    """Point 2: pairs of functions that share four lines or more which differ only in names and values."""
+    """Point 2: pairs of functions that share three lines or more which differ only in names and values."""
     lines = list(lines_of_functions())
     stands_in = collections.defaultdict(list)
     for at in range(len(lines) - ALIKE + 1):

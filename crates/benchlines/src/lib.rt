@@ -22,8 +22,8 @@ fn add_driven(out: &mut Vec<u8>, driven: Option<u8>)
             out,
             &[
                 b' ',
-                hexadecimal_figure(byte as u16 / 16),
-                hexadecimal_figure(byte as u16),
+                hexadecimal_figure(u16::from(byte) / 16),
+                hexadecimal_figure(u16::from(byte)),
             ],
         ),
     }

@@ -35,7 +35,7 @@ pub struct Frame {
 // What is to be said of a frame.
 #[derive(Clone, Copy, PartialEq, Eq, Debug)]
 pub struct Verdict {
-    // Whether the sum sent is the sum worked out.
+    // Whether the sum sent is the sum worked out: judged once, so that nobody who prints a verdict judges again.
     pub right: bool,
     // The page that the address chooses, and the place in it.
     pub page: u32,
@@ -78,7 +78,7 @@ fn read_header(line: &[u8]) -> Result<(Header, &[u8]), Unreadable>
     fields::expect_something(line)?;
     let (number, text) = fields::read_number(line, Unreadable::Size)?;
     let (count, text) = fields::read_number(text, Unreadable::AddressBytes)?;
-    let address_bytes = AddressBytes::try_from(count).map_err(|_| Unreadable::AddressBytes)?;
+    let address_bytes = AddressBytes::try_from(count)?;
     let size = choose_size(address_bytes, number)?;
     let header = Header {
         size,

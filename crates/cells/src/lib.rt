@@ -20,6 +20,9 @@ pub const PAGE: usize = 64;
 
 // A cell array of N bytes: a working image, and a kept image that outlasts the loss of power. Page p is the 64 bytes from
 // 64 × p.
+//
+// Contracts tell a refusal by its number, through the one definition that gives each case its number. What a call answers, what
+// it does to the images and what it leaves have a clause each, whose name says which.
 pub trait Cells {
     // The two images.
     ghost images: { Self → Images };

@@ -71,7 +71,7 @@ pub trait Dialect {
     fn mask() -> u8
         ensures { result ≡ facts.mask };
 
-    // The bit by which the status shows the fail mark; 0 where there is none.
+    // The bit by which the status shows the fail mark; 0 where there is none. That needs no `Option`: as a mask, 0 is no bit.
     fn fail_bit() -> u8
         ensures { result ≡ facts.fail_bit };
 

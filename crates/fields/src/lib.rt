@@ -13,8 +13,9 @@ ghost use Rattle.fields.specs.Fields.{seen, capped, with_capped, blank, hexadeci
 ghost use Rattle.fields.specs.Fields.{something_on, nothing_behind, digits, begins_with_digit, ends_here};
 ghost use Rattle.fields.specs.Fields.{read_number, read_byte, read_bytes, read_highest_first};
 ghost use Rattle.fields.specs.Reasons.{reason};
+ghost use Rattle.fields.specs.declared.Unreadable.TheVariants as unreadable;
 
-use crc::AddressBytes;
+use crc::{AddressBytes, NotTwoOrThree};
 use std::error::Error;
 use std::fmt;
 
@@ -35,6 +36,14 @@ pub enum Unreadable {
     TooShort,
     // Something stands behind the frame.
     TooLong,
+}
+
+impl From<NotTwoOrThree> for Unreadable {
+    ghost from_gives = { λ count why. why ≡ unreadable.AddressBytes };
+
+    fn from(_count: NotTwoOrThree) -> Unreadable {
+        Unreadable::AddressBytes
+    }
 }
 
 impl fmt::Display for Unreadable {
@@ -90,7 +99,7 @@ fn hexadecimal_digit(c: u8, why: Unreadable) -> Result<u8, Unreadable>
     DIGITS[usize::from(c)].ok_or(why)
 }
 
-// How many blanks a text begins with.
+// How many blanks a text begins with. The library's `trim_ascii_start` would take more: line feeds and form feeds.
 fn count_blanks(text: &[u8]) -> usize
     ensures value { result ≡ prefix_len blank text.now }
     ensures within { result ≤ length text.now }

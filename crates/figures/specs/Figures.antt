@@ -8,3 +8,7 @@ figure d = cond (ltb d 10) (48 + d) (55 + d)
 -- a byte as two figures
 abbrev pub byte_figures : ℕ → List ℕ
 byte_figures b = figure (b / 16) ∷ figure (b % 16) ∷ []
+
+-- a sum, a number of 16 bits, as four figures
+abbrev pub sum_text : ℕ → List ℕ
+sum_text sum = figure (sum / 4096 % 16) ∷ figure (sum / 256 % 16) ∷ figure (sum / 16 % 16) ∷ figure (sum % 16) ∷ []

@@ -10,7 +10,8 @@
 use report::{Lines, Tally};
 use std::io::{Read, Write};
 
-// So many bytes of the report are gathered before they are written.
+// So many bytes of the report are gathered before they are written. They are gathered in a `String`, since what is promised of a
+// line is promised of a text that it is added to.
 const GATHERED: usize = 65_536;
 
 fn check(rt: &HostRuntime) -> anyhow::Result<()> {

@@ -72,6 +72,7 @@ fn compare_sizes<F: Fn(Global, usize) -> Result<bool, AllocError>>(
 ) -> anyhow::Result<usize>
     requires { F.IsAlwaysCallable wakes }
 {
+    // Counted as each line is printed, which can fail.
     let mut agreeing: usize = 0;
     for Known { size, alive } in sizes {
         let lives = wakes(rt.alloc(), *size)?;

@@ -110,7 +110,7 @@ impl fmt::Display for Told {
     }
 }
 
-// A call and what it came to. Only a wait tells the pages still to go.
+// A call and what it came to.
 #[derive(Drop)]
 struct Made(Call, Result<Answer, Refusal>);
 
@@ -120,16 +120,9 @@ impl fmt::Display for Made {
         write!(f, "{}: ", Told(call))?;
         match result {
             Err(refusal) => write!(f, "{refusal}, driven --"),
-            Ok(answer) => {
-                f.write_str("answer 0, ")?;
-                if call == Call::Tick {
-                    write!(f, "{} to go, ", answer.to_go)?;
-                }
-                match answer.driven {
-                    None => f.write_str("driven --"),
-                    Some(byte) => write!(f, "driven {byte:02X}"),
-                }
-            }
+            Ok(Answer::ToGo(pages)) => write!(f, "answer 0, {pages} to go, driven --"),
+            Ok(Answer::Driven(Some(byte))) => write!(f, "answer 0, driven {byte:02X}"),
+            Ok(Answer::Driven(None) | Answer::Done) => f.write_str("answer 0, driven --"),
         }
     }
 }

@@ -15,7 +15,6 @@ use lasting::Lasting;
 use part::Part;
 use replay::Bench;
 use shadowed::Shadowed;
-use std::alloc::{AllocError, Global};
 use std::io::Read;
 
 // The files of a pack, up to the end or to the first that is not whole.
@@ -38,19 +37,6 @@ impl<'a> Iterator for Files<'a> {
     }
 }
 
-// What a bench prints for a file that is played on a part.
-fn play_on<D: Dialect + Drop, C: Cells + Drop>(
-    heap: Global,
-    part: Part<D, C>,
-    file: &[u8],
-    out: &mut Vec<u8>,
-) -> Result<(), AllocError> {
-    let mut bench = Bench::new(part, heap);
-    let played = bench.play(file, out);
-    let _ = bench.into_part().into_cells();
-    played
-}
-
 fn print_digest(rt: &HostRuntime, number: usize, bench: &str, text: &[u8]) -> anyhow::Result<()> {
     let lines = text.iter().filter(|byte| **byte == b'\n').count();
     let bytes = text.len();
@@ -59,17 +45,29 @@ fn print_digest(rt: &HostRuntime, number: usize, bench: &str, text: &[u8]) -> an
     Ok(())
 }
 
-fn play_both(rt: &HostRuntime, number: usize, file: &[u8]) -> anyhow::Result<()> {
+// Plays a file on a part, and prints what a bench makes of it.
+fn play_on<D: Dialect + Drop, C: Cells + Drop>(
+    rt: &HostRuntime,
+    number: usize,
+    name: &str,
+    part: Part<D, C>,
+    file: &[u8],
+) -> anyhow::Result<()> {
     let mut text = Vec::new(rt.alloc());
+    let mut bench = Bench::new(part, rt.alloc());
+    let played = bench.play(file, &mut text);
+    let _ = bench.into_part().into_cells();
+    played?;
+    print_digest(rt, number, name, text.as_slice())
+}
+
+fn play_both(rt: &HostRuntime, number: usize, file: &[u8]) -> anyhow::Result<()> {
     let mut memory = [0xFF; 512];
     let part = Part::new(Nv, Shadowed::over(&mut memory));
-    play_on(rt.alloc(), part, file, &mut text)?;
-    print_digest(rt, number, "nv", text.as_slice())?;
-    text.clear();
+    play_on(rt, number, "nv", part, file)?;
     let mut memory = [0xFF; 256];
     let part = Part::new(Mr, Lasting::over(&mut memory));
-    play_on(rt.alloc(), part, file, &mut text)?;
-    print_digest(rt, number, "mr", text.as_slice())
+    play_on(rt, number, "mr", part, file)
 }
 
 fn main(rt: HostRuntime) -> anyhow::Result<()> {

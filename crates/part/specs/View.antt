@@ -6,11 +6,12 @@ use Rattle.cells.specs.Images.{Images}
 use Rattle.cells.specs.Laws.{Site}
 use Rattle.dialect.specs.Facts.{Facts}
 use Rattle.part.specs.declared.answer.Answer.{Answer}
+use Rattle.part.specs.declared.answer.Answer.TheVariants.{Done, ToGo, Driven}
 use Rattle.part.specs.declared.Awake.{Awake}
 use Rattle.rules.specs.declared.Activity.{Activity}
 use Rattle.rules.specs.declared.Power.TheVariants.{Off, On}
 use Rattle.rules.specs.declared.Call.{Call}
-use Rattle.rules.specs.declared.Call.TheVariants.{PowerUp}
+use Rattle.rules.specs.declared.Call.TheVariants.{Select, Byte, Release, Tick, Cut, PowerUp}
 use Rattle.rules.specs.Step.{Out, step, refusing, on_call, on_power_up}
 use Rattle.rules.specs.Machine.{Changes, driven}
 use Rattle.selection.specs.declared.control.Control.{Control}
@@ -38,13 +39,26 @@ drove (Err r) = None
 
 -- of the answer to any call, the pages still to go or the refusal
 abbrev pub told : Result Answer Refusal → Result ℕ Refusal
-told (Ok a) = Ok a.to_go
+told (Ok Done) = Ok 0
+told (Ok (ToGo pages)) = Ok pages
+told (Ok (Driven d)) = Ok 0
 told (Err r) = Err r
 
 -- of the answer to any call, the byte that it brings, if any
 abbrev pub brought : Result Answer Refusal → Option ℕ
-brought (Ok a) = a.driven
+brought (Ok Done) = None
+brought (Ok (ToGo pages)) = None
+brought (Ok (Driven d)) = d
 brought (Err r) = None
+
+-- an answer tells what its call can tell: a tick the pages still to go, a byte what is driven, and any other call neither
+abbrev pub Suits : Call → Answer → Type 0
+Suits Tick a = (pages : ℕ) × (a ≡ ToGo pages)
+Suits (Byte value held) a = (d : Option ℕ) × (a ≡ Driven d)
+Suits Select a = a ≡ Done
+Suits (Release clocks) a = a ≡ Done
+Suits (Cut charged) a = a ≡ Done
+Suits PowerUp a = a ≡ Done
 
 -- A part can be worked: it is alive and on, with this activity and size.
 pub record IsAwake (a : Awake) (w : Whole) : Type 0 where

@@ -86,6 +86,8 @@ mod tests {
         ];
     }
 
+    // Each test below goes over its own cases, so that one that fails is told by its test and its line.
+    //
     // Wakes a new part and works it through some lists of calls; cuts the power, wakes the part and reads. Answers what the
     // part drives.
     fn found<D: Reads, C: Cells + Drop>(
@@ -228,7 +230,7 @@ mod tests {
         assert_eq!(rt; found, Err(Refusal::Dead));
     }
 
-    // The constants of a dialect are those of its data sheet. The laws tie them to the facts; the values here are the chips'.
+    // The constants of a dialect are its chip's. The laws tie them to the facts of specs/; here they are told once more.
     #[test]
     fn constants_are_those_of_the_chips(rt: HostRuntime) {
         assert_eq!(rt; Nv::ADDRESS_BYTES, 2);

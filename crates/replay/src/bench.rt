@@ -19,7 +19,8 @@ pub struct Bench<D: Dialect, C: Cells> {
     pub(super) driven: Vec<Option<u8>>,
 }
 
-// What came of a record: done, with the pages to go (0 but for ticks), or its fault.
+// What came of a record: done, with the pages to go, or its fault. A number and no `Option`: in the rules every call that is done
+// answers a number, 0 but for a tick.
 pub type Outcome = Result<u32, RecordFault>;
 
 impl<D: Dialect, C: Cells> Bench<D, C> {

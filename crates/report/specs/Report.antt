@@ -1,19 +1,19 @@
 -- What is printed of the captured lines: a line for each, and at the end how many were right, wrong and unreadable.
-use Rattle.std.specs.Prelude.{ℕ, ◌+◌, ◌-◌, ◌/◌, ◌%◌, ◌^◌, min, Bool, cond, List, [], ◌∷◌, ◌++◌, Ok, Err, codes, decimal, Result}
+use Rattle.std.specs.Prelude.{◌≡◌, ℕ, ◌+◌, ◌-◌, ◌^◌, min, Bool, cond, List, [], ◌∷◌, ◌++◌, Ok, Err, codes, decimal, Result, String, string_bytes}
 use Rattle.fields.specs.declared.Unreadable.{Unreadable}
 use Rattle.fields.specs.Reasons.{reason}
-use Rattle.figures.specs.Figures.{figure}
+use Rattle.figures.specs.Figures.{sum_text}
 use Rattle.capture.specs.declared.Verdict.{Verdict}
 use Rattle.report.specs.declared.Tally.{Tally}
 
--- a sum as four upper-case hexadecimal figures
-abbrev pub sum_text : ℕ → List ℕ
-sum_text sum = figure (sum / 4096 % 16) ∷ figure (sum / 256 % 16) ∷ figure (sum / 16 % 16) ∷ figure (sum % 16) ∷ []
+-- a text was added to what a string had
+abbrev pub Added : {A : Type 0} → String A → List ℕ → String A → Type 0
+Added was text now = string_bytes now ≡ string_bytes was ++ text
 
 abbrev pub word : Bool → List ℕ
 word right = cond right (codes "right") (codes "wrong")
 
--- as `3 right page 2 offset 0 sum sent 29B1 worked out 29B1`
+-- The sums stand as four upper-case hexadecimal figures: as `3 right page 2 offset 0 sum sent 29B1 worked out 29B1`
 abbrev pub verdict_text : ℕ → Verdict → List ℕ
 verdict_text number v =
     decimal number ++ (codes " " ++ (word v.right ++ (codes " page " ++ (decimal v.page ++ (codes " offset " ++ (decimal v.offset

@@ -1,13 +1,14 @@
 // What is printed of captured lines.
 #![tactic(auto)]
 
-ghost use Rattle.std.specs.Prelude.{◌≡◌, ◌<◌, [], ◌∷◌, ◌++◌, length, position, IfSome, Some, string_bytes, MatchOption, OnOk, ◌==◌};
+ghost use Rattle.std.specs.Prelude.{◌≡◌, ◌<◌, [], ◌∷◌, length, position, IfSome, MatchOption, OnOk, ◌==◌};
 ghost use Rattle.std.specs.Iterator.{YieldsFirstRef, item_count};
 ghost use Rattle.report.specs.Lines.{lines, first_line, both_seen};
-ghost use Rattle.report.specs.Report.{sum_text, verdict_text, reason_text, line_text, counted, tally_text};
+ghost use Rattle.report.specs.Report.{Added, verdict_text, reason_text, line_text, counted, tally_text};
 
 use capture::Verdict;
 use fields::Unreadable;
+use figures::Sum;
 use std::fmt;
 
 fn find_line_feed(text: &[u8]) -> Option<usize>
@@ -73,23 +74,8 @@ impl Tally {
     }
 }
 
-// A sum is shown as four upper-case hexadecimal digits. A type of its own, since with `{:04X}` in `add_verdict` the proof
-// of the whole line does not close: it has too many terms for the search.
-#[derive(Clone, Copy)]
-struct Sum(u16);
-
-impl fmt::Display for Sum {
-    ghost output = { λ s. Some (sum_text s.0) };
-
-    #[tactic(auto, using(crate::proofs::Figures::four_figures))]
-    fn fmt<W: fmt::Write>(&self, f: &mut fmt::Formatter<W>) -> fmt::Result {
-        let sum = self.0;
-        write!(f, "{sum:04X}")
-    }
-}
-
 fn add_verdict(out: &mut String, number: u64, verdict: Verdict) -> fmt::Result
-    ensures { OnOk result (string_bytes out.new ≡ string_bytes out.old ++ verdict_text number verdict) }
+    ensures { OnOk result (Added out.old (verdict_text number verdict) out.new) }
 {
     let word = if verdict.right { "right" } else { "wrong" };
     let page = verdict.page;
@@ -104,7 +90,7 @@ fn add_verdict(out: &mut String, number: u64, verdict: Verdict) -> fmt::Result
 }
 
 fn add_reason(out: &mut String, number: u64, why: Unreadable) -> fmt::Result
-    ensures { OnOk result (string_bytes out.new ≡ string_bytes out.old ++ reason_text number why) }
+    ensures { OnOk result (Added out.old (reason_text number why) out.new) }
 {
     writeln!(out, "{number} unreadable: {why}")?;
     Ok(())
@@ -112,7 +98,7 @@ fn add_reason(out: &mut String, number: u64, why: Unreadable) -> fmt::Result
 
 // Adds to a text what is printed of a line. Fails where memory does.
 pub fn add_line(out: &mut String, number: u64, examined: Result<Verdict, Unreadable>) -> fmt::Result
-    ensures { OnOk result (string_bytes out.new ≡ string_bytes out.old ++ line_text number examined) }
+    ensures { OnOk result (Added out.old (line_text number examined) out.new) }
 {
     match examined {
         Ok(verdict) => add_verdict(out, number, verdict),
@@ -122,7 +108,7 @@ pub fn add_line(out: &mut String, number: u64, examined: Result<Verdict, Unreada
 
 // Adds to a text how many lines were right, wrong and unreadable.
 pub fn add_tally(out: &mut String, tally: &Tally) -> fmt::Result
-    ensures { OnOk result (string_bytes out.new ≡ string_bytes out.old ++ tally_text tally.now) }
+    ensures { OnOk result (Added out.old (tally_text tally.now) out.new) }
 {
     let Tally {
         right,

@@ -38,11 +38,14 @@ earliest file (suc i) = end_of file i
 abbrev pub has_table : List ℕ → Bool
 has_table file = nat_le (length file) 65535 && (nat_le 2 (length file) && (nat_le (count_of file) 1024 && nat_le (pair_place (count_of file)) (length file)))
 
--- The fault of a pair by itself: 32, then 33.
+-- The fault of a pair by itself, in a file of so many bytes, if its record may start at the floor at the earliest: 32, then 33.
+abbrev pub fault_of : ℕ → ℕ → ℕ → ℕ → Option OpeningFault
+fault_of offset len floor size =
+    cond (len == 0 || nat_lt offset floor) (Some Misplaced) (cond (nat_lt size (offset + len)) (Some PastEnd) None)
+
+-- The fault of pair i.
 abbrev pub pair_fault : List ℕ → ℕ → Option OpeningFault
-pair_fault file i =
-    cond (length_of file i == 0 || nat_lt (offset_of file i) (earliest file i)) (Some Misplaced)
-    (cond (nat_lt (length file) (end_of file i)) (Some PastEnd) None)
+pair_fault file i = fault_of (offset_of file i) (length_of file i) (earliest file i) (length file)
 
 abbrev pub spot : ℕ → ℕ → Spot
 spot i place = record { number = i; place = place }

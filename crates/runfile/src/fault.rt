@@ -98,6 +98,7 @@ pub enum Cause {
 // A fault of a whole file.
 #[derive(Clone, Copy, PartialEq, Eq, Debug)]
 pub struct FileFault {
+    // set where the fault is converted, so that nobody has to work it out from the nesting
     pub layer: Layer,
     pub spot: Spot,
     pub cause: Cause,

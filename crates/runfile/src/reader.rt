@@ -17,6 +17,7 @@ pub struct Found<'a> {
 pub struct Reader<'a> {
     file: &'a [u8],
     count: u16,
+    // The next record by its number, which is told with it.
     next: u16,
     ghost opens: { opening_fault file.now ≡ None },
     ghost counted: { count ≡ count_of file.now },
@@ -31,19 +32,23 @@ impl<'a> Reader<'a> {
     pub fn open(file: &'a [u8]) -> Result<Reader<'a>, FileFault>
         ensures { MatchResult result (λ reader. Opened file.now reader) (λ fault. opening_fault file.now ≡ Some fault) }
     {
+        // A fault of the whole table is told at record 0, place 0.
         let no_pair = Spot {
             number: 0,
             place: 0,
         };
         let count = table::count(file).ok_or(FileFault::from((no_pair, OpeningFault::NoTable)))?;
-        let mut floor = 2 + 4 * count as usize;
-        // By number and not over the pairs' bytes: a fault tells the number of its pair, and where that stands.
-        for i in 0..count {
-            let pair = Spot {
-                number: i as usize,
-                place: 2 + 4 * i as usize,
+        let mut floor = Pair::place(usize::from(count));
+        let (pairs, _) = file[2..floor].as_chunks::<4>();
+        for (number, bytes) in pairs.iter().enumerate() {
+            let spot = Spot {
+                number,
+                place: Pair::place(number),
             };
-            floor = table::check(file, i, floor).map_err(|fault| FileFault::from((pair, fault)))?;
+            let pair = Pair::from(*bytes);
+            pair.check(file.len(), floor)
+                .map_err(|fault| FileFault::from((spot, fault)))?;
+            floor = pair.end();
         }
         Ok(Reader {
             file,
@@ -70,15 +75,15 @@ impl<'a> Iterator for Reader<'a> {
         if self.next >= self.count {
             return None;
         }
-        let Pair { offset, length } = Pair::read(self.file, self.next);
+        let pair = Pair::read(self.file, self.next);
         let spot = Spot {
-            number: self.next as usize,
-            place: offset,
+            number: usize::from(self.next),
+            place: usize::from(pair.offset),
         };
         self.next += 1;
         Some(Found {
             spot,
-            bytes: &self.file[offset..offset + length],
+            bytes: &self.file[usize::from(pair.offset)..pair.end()],
         })
     }
 }

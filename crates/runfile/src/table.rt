@@ -1,6 +1,6 @@
 // The table of a run file: its count, and a pair of offset and length for each record.
 ghost use Rattle.std.specs.Prelude.{◌≡◌, ◌+◌, ◌*◌, ◌<◌, ◌≤◌, true, false, length, Some, None, MatchOption, MatchResult};
-ghost use Rattle.runfile.specs.Table.{number_at, count_of, offset_of, length_of, end_of, earliest, has_table, pair_fault};
+ghost use Rattle.runfile.specs.Table.{number_at, count_of, pair_place, offset_of, length_of, fault_of, has_table};
 
 use super::fault::OpeningFault;
 
@@ -10,58 +10,71 @@ pub const LONGEST: usize = 65_535;
 // and at most so many records.
 pub const MOST_RECORDS: usize = 1_024;
 
-// The number at a place, highest byte first.
-fn number_at(file: &[u8], place: usize) -> u16
-    requires { place + 1 < length file.now }
-    ensures { result ≡ number_at file.now place }
-{
-    u16::from_be_bytes([file[place], file[place + 1]])
-}
-
 // The count, if the table is there.
 pub(super) fn count(file: &[u8]) -> Option<u16>
-    ensures { MatchOption result (has_table file.now ≡ false) (λ n. (has_table file.now ≡ true) × ((n ≡ count_of file.now) × ((n ≤ 1024) × (2 + 4 * n ≤ length file.now)))) }
+    ensures { MatchOption result (has_table file.now ≡ false) (λ n. (has_table file.now ≡ true) × ((n ≡ count_of file.now) × ((n ≤ 1024) × (pair_place n ≤ length file.now)))) }
 {
     let count = u16::from_be_bytes(*file.first_chunk()?);
     let is_there = file.len() <= LONGEST
-        && count as usize <= MOST_RECORDS
-        && 2 + 4 * count as usize <= file.len();
+        && usize::from(count) <= MOST_RECORDS
+        && Pair::place(usize::from(count)) <= file.len();
     is_there.then_some(count)
 }
 
 // A pair of the table: where its record starts, and how many bytes the record has.
+#[derive(Clone, Copy)]
 pub(super) struct Pair {
-    pub offset: usize,
-    pub length: usize,
+    pub offset: u16,
+    pub length: u16,
 }
 
-impl Pair {
-    // Pair i.
-    pub fn read(file: &[u8], i: u16) -> Pair
-        requires { 4 * i + 5 < length file.now }
-        ensures offset { result.offset ≡ offset_of file.now i }
-        ensures length { result.length ≡ length_of file.now i }
-        ensures end { result.offset + result.length ≡ end_of file.now i }
-    {
-        let at = 2 + 4 * i as usize;
+impl From<[u8; 4]> for Pair {
+    ghost from_gives = { λ bytes pair. (pair.offset ≡ number_at bytes 0) × (pair.length ≡ number_at bytes 2) };
+
+    fn from(bytes: [u8; 4]) -> Pair {
         Pair {
-            offset: number_at(file, at) as usize,
-            length: number_at(file, at + 2) as usize,
+            offset: u16::from_be_bytes([bytes[0], bytes[1]]),
+            length: u16::from_be_bytes([bytes[2], bytes[3]]),
         }
     }
 }
 
-// Checks pair i, whose record may start at the floor at the earliest. Answers the place behind the record.
-pub(super) fn check(file: &[u8], i: u16, floor: usize) -> Result<usize, OpeningFault>
-    requires { (4 * i + 5 < length file.now) × (floor ≡ earliest file.now i) }
-    ensures { MatchResult result (λ end. (pair_fault file.now i ≡ None) × (end ≡ end_of file.now i)) (λ f. pair_fault file.now i ≡ Some f) }
-{
-    let Pair { offset, length } = Pair::read(file, i);
-    if length == 0 || offset < floor {
-        return Err(OpeningFault::Misplaced);
+impl Pair {
+    // The place of pair i; that of the pair behind the last is the table's end.
+    pub(super) fn place(i: usize) -> usize
+        requires { i ≤ 65535 }
+        ensures { result ≡ pair_place i }
+    {
+        2 + 4 * i
     }
-    if file.len() < offset + length {
-        return Err(OpeningFault::PastEnd);
+
+    // Pair i of a file.
+    pub(super) fn read(file: &[u8], i: u16) -> Pair
+        requires { 4 * i + 5 < length file.now }
+        ensures offset { result.offset ≡ offset_of file.now i }
+        ensures length { result.length ≡ length_of file.now i }
+    {
+        let at = Pair::place(usize::from(i));
+        Pair::from([file[at], file[at + 1], file[at + 2], file[at + 3]])
     }
-    Ok(offset + length)
+
+    // The place behind its record.
+    pub(super) fn end(self) -> usize
+        ensures { result ≡ self.offset + self.length }
+    {
+        usize::from(self.offset) + usize::from(self.length)
+    }
+
+    // Checks the pair in a file of so many bytes. Its record may start at the floor at the earliest.
+    pub(super) fn check(self, size: usize, floor: usize) -> Result<(), OpeningFault>
+        ensures { MatchResult result (λ _. fault_of self.offset self.length floor size ≡ None) (λ f. fault_of self.offset self.length floor size ≡ Some f) }
+    {
+        if self.length == 0 || usize::from(self.offset) < floor {
+            return Err(OpeningFault::Misplaced);
+        }
+        if size < self.end() {
+            return Err(OpeningFault::PastEnd);
+        }
+        Ok(())
+    }
 }

@@ -21,6 +21,7 @@ pub(crate) fn modulo(bytes: &[u8], size: u32) -> u32
     requires { 0 < size }
     ensures { result ≡ number bytes.now % size }
 {
+    // A loop and not a `fold`: the proof does not find what its closure answers.
     let mut so_far = 0;
     for byte in bytes {
         so_far = one_more(so_far, *byte, size);

@@ -58,6 +58,7 @@ fn end_paged<D: Dialect, C: Cells>(
 ) -> Result<(), Refusal>
     ensures { Ends D.facts C.Cells (ends_paged (kind D.facts C.Cells cells.old) control.old write.now) cells.old result control.new cells.new }
 {
+    // The release of any write cleared it before; this function's own promise tells it too.
     control.latch = false;
     if write.held.is_empty() {
         return unblocked(write.blocked);
@@ -109,6 +110,7 @@ fn end_frame<D: Dialect, C: Cells>(
     requires { (length frame.now ≡ D.facts.address_bytes + 66) × Fits size (C.site cells.old) }
     ensures { Ends D.facts C.Cells (ends_frame (kind D.facts C.Cells cells.old) control.old frame.now) cells.old result control.new cells.new }
 {
+    // The release of any write cleared it before; this function's own promise tells it too.
     control.latch = false;
     let Frame { place, data, sum } = parts::<D>(frame, size);
     if crc::page_sum(address_bytes::<D>(), size, place, data) != sum {
@@ -123,7 +125,8 @@ fn end_frame<D: Dialect, C: Cells>(
 }
 
 // Ends a selection: what its release answers, and what it does to the control and the cells. A size that is not
-// that of the cells, or is that of a dead array, is refused as dead.
+// that of the cells, or is that of a dead array, is refused as dead. The size is tested here, so that nothing is
+// asked of the caller.
 pub fn end<D: Dialect, C: Cells>(
     control: &mut Control,
     phase: &Phase,

@@ -17,19 +17,14 @@ use dialect::Dialect;
 use rules::Activity;
 
 // What came of a byte: the byte driven back, and whether anything was put.
+#[derive(Default)]
 pub struct Heard {
     pub driven: Option<u8>,
     pub wrote: bool,
 }
 
-// Nothing driven, and nothing put.
-const UNHEARD: Heard = Heard {
-    driven: None,
-    wrote: false,
-};
-
 // The phase takes one unheld byte and moves on in place. A size that is not that of the cells, or is that of a dead array,
-// has nothing heard.
+// has nothing heard. The size is tested here, so that nothing is asked of the caller.
 pub fn hear<D: Dialect, C: Cells>(
     control: &Control,
     activity: Activity,
@@ -42,7 +37,7 @@ pub fn hear<D: Dialect, C: Cells>(
     ensures misfit { (Fits size (C.site cells.old) → ⊥) → Ignored C.Cells phase.old phase.new result cells.old cells.new }
 {
     if !fits(cells, size) {
-        return UNHEARD;
+        return Heard::default();
     }
     hear_sized::<D, C>(control, activity, phase, cells, size, value)
 }
@@ -59,7 +54,7 @@ fn hear_sized<D: Dialect, C: Cells>(
     requires { Fits size (C.site cells.old) }
     ensures { Hears D.facts C.Cells (hears (kind D.facts C.Cells cells.old) control.now activity phase.old value) cells.old phase.new result cells.new }
 {
-    let mut heard = UNHEARD;
+    let mut heard = Heard::default();
     match (&mut *phase, value) {
         (Phase::Opcode, opcode) => *phase = open::<D>(activity, control.latch, opcode),
         (Phase::TurnedAway { .. }, _) | (Phase::FrameTooLong, _) => {}

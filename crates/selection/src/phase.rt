@@ -9,7 +9,8 @@ use dialect::Instruction;
 use refusal::Refusal;
 
 // The bytes that a selection holds on to, in the order of sending: of an address, of a page, or of a secure frame. A frame is the
-// longest, with 3 address bytes, 64 data bytes and 2 of the sum. They lie in the value itself: nothing is allocated in a call.
+// longest, with 3 address bytes, 64 data bytes and 2 of the sum. They lie in the value itself: nothing is allocated in a call. It
+// has the same room in every phase, since a phase with less would take less than before.
 pub type Held = ArrayVec<u8, 69>;
 
 #[derive(Clone, Drop)]
@@ -37,7 +38,7 @@ pub enum Phase {
     Reading {
         at: u32,
     },
-    // The address, and how many bytes were driven, of the 66 that there are.
+    // The address, and how many bytes were driven, of the 66 that there are. A count, as the rules have it.
     ReadingSecure {
         from: u32,
         driven: u8,
@@ -75,6 +76,7 @@ impl Phase {
 pub enum StatusBytes {
     Nothing,
     One(u8),
+    // The first byte is kept, since the rules' phase has it.
     More { first: u8 },
 }
 

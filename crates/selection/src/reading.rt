@@ -17,15 +17,11 @@ pub(crate) fn read<C: Cells>(cells: &C, at: usize) -> u8
     cells.get(at).unwrap_or(0)
 }
 
-// How many bytes an address has, as the sum takes it. By a match and not by `try_from`, which could refuse: the laws of a dialect
-// leave 2 and 3.
+// How many bytes an address has, as the sum takes it. The laws of a dialect leave 2 and 3, so `try_from` never refuses.
 pub(crate) fn address_bytes<D: Dialect>() -> AddressBytes
     ensures { count_of result ≡ D.facts.address_bytes }
 {
-    match D::address_length() {
-        2 => AddressBytes::Two,
-        _ => AddressBytes::Three,
-    }
+    AddressBytes::try_from(D::address_length() as u32).unwrap()
 }
 
 // The address so many bytes behind an address, rolling over in its page.

@@ -10,7 +10,8 @@ use cells::Cells;
 use dialect::Dialect;
 use refusal::Refusal;
 
-// Whether a size is that of the cells, and the cells are not empty.
+// Whether a size is that of the cells, and the cells are not empty. No struct keeps cells and size together: each of its methods
+// would also have to promise that the reference in it stays the same.
 pub(crate) fn fits<C: Cells>(cells: &C, size: u32) -> bool
     ensures { Decides result (Fits size (C.site cells.now)) }
 {
@@ -22,7 +23,7 @@ pub(crate) fn is_protected<D: Dialect>(status_bits: u8, size: usize, at: usize) 
     ensures { result ≡ in_range (D.facts.range status_bits size) at }
 {
     let (first, end) = D::protected(status_bits, size);
-    first <= at && at < end
+    (first..end).contains(&at)
 }
 
 // Puts a byte; past the array's end nothing changes.

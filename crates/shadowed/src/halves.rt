@@ -1,5 +1,6 @@
 // The six calls on a buffer of two halves: the working image, then the kept image. They are functions over the slice and no
-// methods, since a proof does not know what a write leaves in a slice that is a struct's field.
+// methods, since a proof does not know what a write leaves in a slice that is a struct's field. Get and put read as those of
+// lasting cells do, and stay apart for their promises: each tells its own images.
 ghost use Rattle.std.specs.Prelude.{◌≡◌, ◌+◌, ◌<◌, ◌≤◌, false, ◌++◌, length, drop, replicate};
 ghost use Rattle.refusal.specs.Numbers.{numbered};
 ghost use Rattle.cells.specs.Images.{got, address_answer, page_answer, after_put, after_keep, after_recall};

@@ -11,7 +11,8 @@ use refusal::Refusal;
 
 mod halves;
 
-// An array over a buffer of 2 × N bytes: the working image, then the kept image.
+// An array over a buffer of 2 × N bytes: the working image, then the kept image. One slice and not one for each image, so that
+// whoever lent it knows afterwards what all of it holds.
 #[derive(Drop)]
 pub struct Shadowed<'a> {
     bytes: &'a mut [u8],

@@ -6,9 +6,11 @@
 
 ghost use Rattle.std.specs.Prelude.{◌≡◌, Some, Decides};
 ghost use Rattle.crc.specs.Sum.{sum_of};
+ghost use Rattle.vectors.specs.Line.{verdict_text, line_text};
 ghost use Rattle.vectors.specs.Message.{message};
 ghost use Rattle.vectors.specs.Source.{source_text};
 
+use figures::Sum;
 use std::fmt;
 
 // Where a known sum comes from.
@@ -104,8 +106,21 @@ impl Vector {
     }
 }
 
+// Whether the library's sum and the source's agree, in words.
+fn verdict(agree: bool) -> &'static str
+    ensures { result.now ≡ verdict_text agree }
+{
+    if agree {
+        "which agrees"
+    } else {
+        "WHICH DIFFERS"
+    }
+}
+
 // The comparison, as a line.
 impl fmt::Display for Vector {
+    ghost output = { λ v. Some (line_text v) };
+
     fn fmt<W: fmt::Write>(&self, f: &mut fmt::Formatter<W>) -> fmt::Result {
         let Vector {
             what,
@@ -113,15 +128,13 @@ impl fmt::Display for Vector {
             sum,
             ..
         } = *self;
-        let ours = self.worked_out();
-        let verdict = if ours == sum {
-            "which agrees"
-        } else {
-            "WHICH DIFFERS"
-        };
+        let worked_out = self.worked_out();
+        let verdict = verdict(worked_out == sum);
+        let theirs = Sum(sum);
+        let ours = Sum(worked_out);
         write!(
             f,
-            "{what}: {source} has {sum:04X}, the library {ours:04X}, {verdict}"
+            "{what}: {source} has {theirs}, the library {ours}, {verdict}"
         )
     }
 }

@@ -4,5 +4,5 @@ use Rattle.runfile.specs.Table.{earliest}
 use Rattle.runfile.proofs.Opening.{UpTo}
 use Rattle.runfile.proofs.reader.Reader.open.Given as goal
 
-abbrev pub invariant-loop-i : goal.invariant-loop-i
-invariant-loop-i l = (l.floor ≡ earliest l.file l.i) × UpTo l.file l.i
+abbrev pub invariant-loop-number : goal.invariant-loop-number
+invariant-loop-number l = (l.floor ≡ earliest l.fn.file l.number) × UpTo l.fn.file l.number

@@ -3,8 +3,7 @@ use Rattle.std.proofs.Common.{◌≡◌, ℕ, suc, ◌-◌, ◌/◌, ◌%◌, �
 use Rattle.std.proofs.lemmas.Bool.{cond-true, cond-false, eq-eqb, cases_Bool}
 use Rattle.std.proofs.lemmas.Fmt.{hex_one_digit, hex_two_digits}
 use Rattle.std.specs.Fmt.{digits, digits_onto, padded_integral, format_spec, char_count}
-use Rattle.figures.specs.Figures.{figure}
-use Rattle.report.specs.Report.{sum_text}
+use Rattle.figures.specs.Figures.{figure, sum_text}
 
 nonzero : (n : ℕ) → 16 ≤ n → eqb (n / 16) 0 ≡ false
 nonzero n h = grind arith
