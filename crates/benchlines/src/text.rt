@@ -9,8 +9,10 @@ pub(super) fn add_bytes(out: &mut Vec<u8>, bytes: &[u8])
     requires { HasRoom out.old (length bytes.now) }
     ensures { Added out.old bytes.now out.new }
 {
-    // It fails only where room is missing.
-    let _ = out.extend_from_slice(bytes);
+    // Byte by byte: to a text of a few bytes `extend_from_slice` takes longer.
+    for byte in bytes {
+        out.push_reserved(*byte);
+    }
 }
 
 // A number without leading zeros.

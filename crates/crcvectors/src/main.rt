@@ -5,10 +5,13 @@
 use vectors::VECTORS;
 
 fn main(rt: HostRuntime) -> anyhow::Result<()> {
+    // Counted as each line is printed, which can fail.
+    let mut agreeing: usize = 0;
     for vector in &VECTORS {
-        println!(rt; "{vector}")?;
+        let compared = vector.compared();
+        println!(rt; "{compared}")?;
+        agreeing = agreeing.saturating_add(usize::from(compared.agrees()));
     }
-    let agreeing = VECTORS.iter().filter(|vector| vector.agrees()).count();
     let all = VECTORS.len();
     println!(rt; "{agreeing} of {all} agree")?;
     Ok(())

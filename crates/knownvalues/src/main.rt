@@ -90,10 +90,12 @@ fn compare_sizes<F: Fn(Global, usize) -> Result<bool, AllocError>>(
 }
 
 fn main(rt: HostRuntime) -> anyhow::Result<()> {
+    let mut sums: usize = 0;
     for vector in &VECTORS {
-        println!(rt; "{vector}")?;
+        let compared = vector.compared();
+        println!(rt; "{compared}")?;
+        sums = sums.saturating_add(usize::from(compared.agrees()));
     }
-    let sums = VECTORS.iter().filter(|vector| vector.agrees()).count();
     let nv = compare_sizes(&rt, "nv above shadowed cells", &NV_SIZES, nv_wakes)?;
     let mr = compare_sizes(&rt, "mr above lasting cells", &MR_SIZES, mr_wakes)?;
     let agreeing = sums.saturating_add(nv).saturating_add(mr);

@@ -29,11 +29,11 @@ alive_same k n r size d =
           (eq-eqb (ones k.size) 1 (ap ones a.is_a_power_of_two ∙ one_bit_of_power a.exponent))),
     )
 
-dead_refuses : (k : Kind) (s : State) (c : Call) → alive k ≡ false → step k s c ≡ refusing s Dead
+pub dead_refuses : (k : Kind) (s : State) (c : Call) → alive k ≡ false → step k s c ≡ refusing s Dead
 unfolding step
 dead_refuses k s c dead = cond-false (alive k) _ _ dead
 
-off_steps : (k : Kind) (s : State) (c : Call) → alive k ≡ true → s.power ≡ Off → step k s c ≡ off_call s c
+pub off_steps : (k : Kind) (s : State) (c : Call) → alive k ≡ true → s.power ≡ Off → step k s c ≡ off_call s c
 unfolding step
 off_steps k s c live off = cond-true (alive k) _ _ live ∙ ap (λ p. live_call k s p c) off
 

@@ -1,6 +1,6 @@
 // The six calls. Each answers, changes and drives what the rules say, refused or done; and whatever led to the part, all that
 // is promised of a run holds at this moment and at every moment before.
-ghost use Rattle.std.specs.Prelude.{None};
+ghost use Rattle.std.specs.Prelude.{◌≡◌, None};
 ghost use Rattle.rules.specs.declared.Call.TheVariants.{Select, Byte, Release, Tick, Cut, PowerUp};
 ghost use Rattle.promises.specs.Served.{Served};
 ghost use Rattle.part.specs.View.{answered, drove};
@@ -61,7 +61,8 @@ impl<D: Dialect, C: Cells> Part<D, C> {
 
     // Brings the power back: the part wakes from page 0 on. Refused with 1 if it is dead, 6 if it is on; then nothing changes.
     pub fn power_up(&mut self) -> Result<(), Refusal>
-        ensures { Served PowerUp (whole D.Dialect C.Cells self.old) (answered result) (None) (whole D.Dialect C.Cells self.new) }
+        ensures served { Served PowerUp (whole D.Dialect C.Cells self.old) (answered result) (None) (whole D.Dialect C.Cells self.new) }
+        ensures cells { self.new.cells ≡ self.old.cells }
     {
         match self.ready() {
             Ok(_) => Err(Refusal::AlreadyOn),

@@ -86,7 +86,7 @@ mod tests {
         ];
     }
 
-    // Each test below goes over its own cases, so that one that fails is told by its test and its line.
+    // Each test below goes over its own cases, so that one that fails is told by its test.
     //
     // Wakes a new part and works it through some lists of calls; cuts the power, wakes the part and reads. Answers what the
     // part drives.

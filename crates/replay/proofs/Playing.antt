@@ -63,7 +63,7 @@ none_run s law = record {
   promises = λ first earlier led. ([], (led, promises_hold s.part.kind law first earlier led.run));
 }
 
-one_run : {found : List Located} (f : Located) {a b c : BenchState} {text line : List ℕ} → Lawful c.part.kind.facts
+pub one_run : {found : List Located} (f : Located) {a b c : BenchState} {text line : List ℕ} → Lawful c.part.kind.facts
     → RanRecords found a text b → RanLocated f b line c → RanRecords (found ++ (f ∷ [])) a (text ++ line) c
 one_run {found} f {a} {b} {c} {text} {line} law so_far (x, (ran, is)) =
     let all = ran_more found so_far.came f x a b c so_far.ran ran in record {

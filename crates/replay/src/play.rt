@@ -1,7 +1,7 @@
 // Playing a whole run file.
 ghost use Rattle.std.specs.Prelude.{◌≡◌, ℕ, true, List, ◌++◌, is_some, is_ok, MatchResult};
 ghost use Rattle.runfile.specs.Table.{opening_fault};
-ghost use Rattle.runfile.specs.Reader.{found_seen};
+ghost use Rattle.runfile.specs.Reader.{record_seen};
 ghost use Rattle.benchlines.specs.Room.{HasRoom};
 ghost use Rattle.replay.specs.Ran.{state_of};
 ghost use Rattle.replay.specs.Played.{RanLocated, RanOrNot, Played, PlayedInPart};
@@ -32,7 +32,7 @@ impl<D: Dialect, C: Cells> Bench<D, C> {
 
     // Runs a record where it stands in its file, and adds its line; the record's fault is told as one of the file.
     fn play_record(&mut self, found: Found<'_>, out: &mut Vec<u8>) -> Result<(), AllocError>
-        ensures { let before = state_of D.Dialect C.Cells self.old in let after = state_of D.Dialect C.Cells self.new in MatchResult result (λ _. (text : List ℕ) × ((out.new.items ≡ out.old.items ++ text) × RanLocated (found_seen found.entry) before text after)) (λ _. RanOrNot (found_seen found.entry) before after) }
+        ensures { let before = state_of D.Dialect C.Cells self.old in let after = state_of D.Dialect C.Cells self.new in MatchResult result (λ _. (text : List ℕ) × ((out.new.items ≡ out.old.items ++ text) × RanLocated (record_seen found.entry) before text after)) (λ _. RanOrNot (record_seen found.entry) before after) }
     {
         let Found { spot, bytes } = found;
         let result = self

@@ -28,8 +28,10 @@ impl<D: Dialect, C: Cells> Bench<D, C> {
         ensures made { let before = state_of D.Dialect C.Cells self.old in let after = state_of D.Dialect C.Cells self.new in (last : Result ℕ Refused) × Made (map (λ b. Byte b before.held) bytes.now) before.part self.new.driven.items last after.part }
         ensures level { self.new.held ≡ self.old.held }
     {
+        // Read once: no call of the part changes it, and the loop need not look again.
+        let held = self.held;
         for byte in bytes {
-            let on_the_line = self.part.byte(*byte, self.held).unwrap_or(None);
+            let on_the_line = self.part.byte(*byte, held).unwrap_or(None);
             self.driven.push_reserved(on_the_line);
         }
     }

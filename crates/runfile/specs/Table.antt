@@ -73,3 +73,7 @@ record_at file i = record { spot = spot i (offset_of file i); bytes = take (leng
 -- all records of a file
 abbrev pub records_of : List ℕ → List Located
 records_of file = map (record_at file) (range_with_len 0 (count_of file))
+
+-- record i, if its pair and the record itself stand in the file
+abbrev pub located : List ℕ → ℕ → Option Located
+located file i = cond (nat_le (pair_place i + 4) (length file) && nat_le (end_of file i) (length file)) (Some (record_at file i)) None

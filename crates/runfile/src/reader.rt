@@ -60,13 +60,13 @@ impl<'a> Reader<'a> {
 
 impl<'a> Iterator for Reader<'a> {
     ghost use Rattle.std.specs.Prelude.{◌≡◌};
-    ghost use Rattle.std.specs.Iterator.{YieldsFirstBy, item_count};
-    ghost use Rattle.runfile.specs.Reader.{found_seen, left};
+    ghost use Rattle.std.specs.Iterator.{item_count};
+    ghost use Rattle.runfile.specs.Reader.{left, Steps};
 
     type Item = Found<'a>;
 
-    // The records come as the table has them, and in its order.
-    ghost next_gives = { YieldsFirstBy found_seen left };
+    // The records come as the table has them, and in its order; the file and the count stay.
+    ghost next_gives = { Steps };
 
     ghost remaining = { item_count left };
 

@@ -1,3 +1,4 @@
+pub mod Items
 pub mod Placed
 pub mod Number
 pub mod Turned

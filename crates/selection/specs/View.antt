@@ -1,9 +1,8 @@
 -- The code's values, as the rules have them.
 use Rattle.std.specs.Prelude.{◌≡◌, ℕ, ◌*◌, ◌≤◌, Bool, true, false, List, Some, None, Ok, Err, Option, Result}
+use Rattle.selection.specs.Held.{items}
 use Rattle.selection.specs.declared.phase.Phase.{Phase}
 use Rattle.selection.specs.declared.phase.Phase.TheVariants as code
-use Rattle.selection.specs.declared.phase.StatusBytes.{StatusBytes}
-use Rattle.selection.specs.declared.phase.StatusBytes.TheVariants.{Nothing, One, More}
 use Rattle.selection.specs.declared.control.Control.{Control}
 use Rattle.selection.specs.declared.hearing.Heard.{Heard}
 use Rattle.selection.specs.declared.writing.PageWrite.{PageWrite}
@@ -25,34 +24,23 @@ use Rattle.rules.specs.Machine.{Changes, driven}
 use Rattle.rules.specs.declared.Activity.{Activity}
 
 abbrev pub page_write : PageWrite → rules.Phase
-page_write w = rules.writing_paged w.page w.first w.held.items w.blocked w.any
+page_write w = rules.writing_paged w.page w.first (items w.held) w.blocked w.any
 
 abbrev pub direct_write : DirectWrite → rules.Phase
 direct_write w = rules.writing_direct w.at w.blocked w.any
-
--- how many data bytes of a status write came, where 2 stands for any more, and the first of them
-abbrev pub count_of : StatusBytes → ℕ
-count_of Nothing = 0
-count_of (One b) = 1
-count_of (More b) = 2
-
-abbrev pub first_of : StatusBytes → ℕ
-first_of Nothing = 0
-first_of (One b) = b
-first_of (More b) = b
 
 abbrev pub phase_of : Phase → rules.Phase
 phase_of code.Opcode = rules.opcode
 phase_of (code.TurnedAway r w) = rules.turned_away r w
 phase_of (code.Command i followed) = rules.command i followed
 phase_of code.ReadingStatus = rules.reading_status
-phase_of (code.WritingStatus b) = rules.writing_status (count_of b) (first_of b)
-phase_of (code.Address i h) = rules.address i h.items
+phase_of (code.WritingStatus n first) = rules.writing_status n first
+phase_of (code.Address i h) = rules.address i (items h)
 phase_of (code.Reading a) = rules.reading a
 phase_of (code.ReadingSecure a n) = rules.reading_secure a n
 phase_of (code.WritingPaged w) = page_write w
 phase_of (code.WritingDirect w) = direct_write w
-phase_of (code.Frame h) = rules.frame h.items
+phase_of (code.Frame h) = rules.frame (items h)
 phase_of code.FrameTooLong = rules.frame_too_long
 
 -- whether the selection is that of a write
@@ -61,7 +49,7 @@ names_write code.Opcode = false
 names_write (code.TurnedAway r w) = w
 names_write (code.Command i followed) = false
 names_write code.ReadingStatus = false
-names_write (code.WritingStatus b) = true
+names_write (code.WritingStatus n first) = true
 names_write (code.Address i h) = is_write i
 names_write (code.Reading a) = false
 names_write (code.ReadingSecure a n) = false
@@ -137,7 +125,7 @@ abbrev pub ends : Kind → Control → Phase → ℕ → Ended
 ends k control phase clocks = ended k (state_of control rules.unselected) (phase_of phase) clocks
 
 abbrev pub ends_paged : Kind → Control → PageWrite → Ended
-ends_paged k control w = paged_ended k (state_of control rules.unselected) w.page w.first w.held.items w.blocked
+ends_paged k control w = paged_ended k (state_of control rules.unselected) w.page w.first (items w.held) w.blocked
 
 abbrev pub ends_frame : Kind → Control → List ℕ → Ended
 ends_frame k control frame = frame_ended k (state_of control rules.unselected) frame

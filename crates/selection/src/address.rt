@@ -4,7 +4,8 @@ ghost use Rattle.rules.specs.Frame.{number};
 ghost use Rattle.rules.specs.Byte.{located};
 ghost use Rattle.selection.specs.View.{phase_of, kind_for};
 
-use crate::phase::{Held, Phase};
+use crate::held::Held;
+use crate::phase::Phase;
 use crate::writing::{DirectWrite, PageWrite};
 use dialect::{Dialect, Instruction};
 

@@ -9,7 +9,7 @@ ghost use Rattle.selection.specs.View.{kind, kind_for, state_of, Fits, ends, end
 use crate::address::modulo;
 use crate::control::Control;
 use crate::opcode::is_write;
-use crate::phase::{Phase, StatusBytes};
+use crate::phase::Phase;
 use crate::reading::address_bytes;
 use crate::write::{accept, fits, unblocked};
 use crate::writing::PageWrite;
@@ -167,12 +167,9 @@ fn end_sized<D: Dialect, C: Cells>(
             Ok(())
         }
         Phase::ReadingStatus | Phase::Reading { .. } | Phase::ReadingSecure { .. } => Ok(()),
-        Phase::WritingStatus(bytes) => {
-            let StatusBytes::One(byte) = bytes else {
-                return Err(Refusal::WrongLength);
-            };
-            whole(true, clocks)?;
-            control.status_bits = status::update::<D>(*byte);
+        Phase::WritingStatus { count, first } => {
+            whole(*count == 1, clocks)?;
+            control.status_bits = status::update::<D>(*first);
             Ok(())
         }
         Phase::Address { instruction, .. } if !is_write(*instruction) => Ok(()),

@@ -60,7 +60,14 @@ fn hear_sized<D: Dialect, C: Cells>(
         (Phase::TurnedAway { .. }, _) | (Phase::FrameTooLong, _) => {}
         (Phase::Command { followed, .. }, _) => *followed = true,
         (Phase::ReadingStatus, _) => heard.driven = Some(status_now::<D>(control, activity)),
-        (Phase::WritingStatus(bytes), byte) => *bytes = bytes.and(byte),
+        (Phase::WritingStatus { count, first }, byte) => {
+            if *count == 0 {
+                *first = byte;
+                *count = 1;
+            } else {
+                *count = 2;
+            }
+        }
         (Phase::Address { held, .. }, byte) if held.len() + 1 < D::address_length() => {
             held.push(byte);
         }

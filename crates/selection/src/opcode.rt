@@ -5,7 +5,8 @@ ghost use Rattle.rules.specs.State.{turned_away};
 ghost use Rattle.refusal.specs.declared.Refusal.TheVariants.{Busy};
 ghost use Rattle.selection.specs.View.{phase_of};
 
-use crate::phase::{Held, Phase, StatusBytes};
+use crate::held::Held;
+use crate::phase::Phase;
 use dialect::{Dialect, Instruction};
 use refusal::Refusal;
 use rules::Activity;
@@ -26,7 +27,7 @@ fn begin(instruction: Instruction) -> Phase
 {
     match instruction {
         Instruction::ReadStatus => Phase::ReadingStatus,
-        Instruction::WriteStatus => Phase::WritingStatus(StatusBytes::Nothing),
+        Instruction::WriteStatus => Phase::WritingStatus { count: 0, first: 0 },
         Instruction::Read | Instruction::Write | Instruction::SecureRead => Phase::Address {
             instruction,
             held: Held::new(),

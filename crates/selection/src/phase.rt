@@ -1,19 +1,14 @@
 // How far a selection has come. Bytes under hold do not count.
-ghost use Rattle.std.specs.Prelude.{◌≡◌, ◌+◌, min, nat_eq, if◌then◌else◌};
-ghost use Rattle.selection.specs.View.{count_of, first_of, names_write};
+ghost use Rattle.std.specs.Prelude.{◌≡◌};
+ghost use Rattle.selection.specs.View.{names_write};
 
+use crate::held::Held;
 use crate::opcode::is_write;
 use crate::writing::{DirectWrite, PageWrite};
-use arrayvec::ArrayVec;
 use dialect::Instruction;
 use refusal::Refusal;
 
-// The bytes that a selection holds on to, in the order of sending: of an address, of a page, or of a secure frame. A frame is the
-// longest, with 3 address bytes, 64 data bytes and 2 of the sum. They lie in the value itself: nothing is allocated in a call. It
-// has the same room in every phase, since a phase with less would take less than before.
-pub type Held = ArrayVec<u8, 69>;
-
-#[derive(Clone, Drop)]
+#[derive(Clone, Copy)]
 pub enum Phase {
     // No byte came yet: the next one is the opcode.
     Opcode,
@@ -28,7 +23,11 @@ pub enum Phase {
         followed: bool,
     },
     ReadingStatus,
-    WritingStatus(StatusBytes),
+    // How many data bytes came, where 2 stands for any more, and the first of them.
+    WritingStatus {
+        count: u8,
+        first: u8,
+    },
     // Read, write or secure read: the address bytes so far. The last of them ends the phase.
     Address {
         instruction: Instruction,
@@ -61,34 +60,12 @@ impl Phase {
         match self {
             Phase::TurnedAway { names_write, .. } => *names_write,
             Phase::Address { instruction, .. } => is_write(*instruction),
-            Phase::WritingStatus(_)
+            Phase::WritingStatus { .. }
             | Phase::WritingPaged(_)
             | Phase::WritingDirect(_)
             | Phase::Frame { .. }
             | Phase::FrameTooLong => true,
             _ => false,
-        }
-    }
-}
-
-// The data bytes of a status write so far. Of several only the first is kept: their number alone makes the write wrong.
-#[derive(Clone, Copy)]
-pub enum StatusBytes {
-    Nothing,
-    One(u8),
-    // The first byte is kept, since the rules' phase has it.
-    More { first: u8 },
-}
-
-impl StatusBytes {
-    // One byte more.
-    pub(crate) fn and(self, byte: u8) -> StatusBytes
-        ensures count { count_of result ≡ min 2 (count_of self + 1) }
-        ensures first { first_of result ≡ (if nat_eq (count_of self) 0 then byte else first_of self) }
-    {
-        match self {
-            StatusBytes::Nothing => StatusBytes::One(byte),
-            StatusBytes::One(first) | StatusBytes::More { first } => StatusBytes::More { first },
         }
     }
 }

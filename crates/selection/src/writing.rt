@@ -4,16 +4,17 @@ ghost use Rattle.rules.specs.Byte.{paged, direct};
 ghost use Rattle.rules.specs.Kind.{next_page, page_protected};
 ghost use Rattle.rules.specs.State.{writing_paged};
 ghost use Rattle.rules.specs.Write.{first_held, latest, fills_page, accepted};
+ghost use Rattle.selection.specs.Held.{items};
 ghost use Rattle.selection.specs.View.{kind, DoneTo, Fits, Puts, page_write, direct_write};
 
-use crate::phase::Held;
+use crate::held::Held;
 use crate::write::{accept, is_protected, put};
 use cells::Cells;
 use dialect::Dialect;
 
 // A paged write: the page of the buffer, the offset of the first byte that it holds, and those bytes in the order of
 // sending; whether some data fell in a protected page that was left, and whether any data came.
-#[derive(Clone, Drop)]
+#[derive(Clone, Copy)]
 pub struct PageWrite {
     pub page: u32,
     pub first: u8,
@@ -25,23 +26,24 @@ pub struct PageWrite {
 impl PageWrite {
     // Whether the next byte completes the page: the write runs on, and offset 63 is filled.
     fn completes<D: Dialect>(&self, status_bits: u8) -> bool
-        ensures { result ≡ (D.facts.runs_on status_bits && fills_page self.now.first self.now.held.items) }
+        ensures { result ≡ (D.facts.runs_on status_bits && fills_page self.now.first (items self.now.held)) }
     {
         D::runs_on(status_bits) && (usize::from(self.first) + self.held.len()) % 64 == 63
     }
 
     // Holds a byte: the latest of each offset, so of more than 64 the last 64.
     fn hold(&mut self, byte: u8)
-        ensures first { self.new.first ≡ first_held self.old.first self.old.held.items }
-        ensures held { self.new.held.items ≡ latest self.old.held.items byte }
+        ensures first { self.new.first ≡ first_held self.old.first (items self.old.held) }
+        ensures held { items self.new.held ≡ latest (items self.old.held) byte }
         ensures page { self.new.page ≡ self.old.page }
         ensures blocked { self.new.blocked ≡ self.old.blocked }
     {
         if self.held.len() >= 64 {
-            self.held.remove(0);
+            self.held.replace_first(byte);
             self.first = (self.first % 64 + 1) % 64;
+        } else {
+            self.held.push(byte);
         }
-        self.held.push(byte);
     }
 
     // Accepts the page, empties the buffer and goes on at the next page. Answers whether anything was put.
@@ -49,7 +51,7 @@ impl PageWrite {
         requires { Fits size (C.site cells.old) }
         ensures phase { page_write self.new ≡ writing_paged (next_page (kind D.facts C.Cells cells.old) self.old.page) 0 [] (self.old.blocked || page_protected (kind D.facts C.Cells cells.old) status_bits self.old.page) true }
         ensures wrote { result ≡ not (page_protected (kind D.facts C.Cells cells.old) status_bits self.old.page) }
-        ensures done { DoneTo D.facts C.Cells cells.old (accepted (kind D.facts C.Cells cells.old) status_bits self.old.page self.old.first self.old.held.items) cells.new }
+        ensures done { DoneTo D.facts C.Cells cells.old (accepted (kind D.facts C.Cells cells.old) status_bits self.old.page self.old.first (items self.old.held)) cells.new }
     {
         let held = self.held.as_slice();
         let accepted = accept::<D, C>(cells, status_bits, self.page, self.first, held);
@@ -73,7 +75,7 @@ impl PageWrite {
         byte: u8,
     ) -> bool
         requires { Fits size (C.site cells.old) }
-        ensures { Puts D.facts C.Cells (paged (kind D.facts C.Cells cells.old) status_bits self.old.page self.old.first self.old.held.items self.old.blocked byte) cells.old (page_write self.new) result cells.new }
+        ensures { Puts D.facts C.Cells (paged (kind D.facts C.Cells cells.old) status_bits self.old.page self.old.first (items self.old.held) self.old.blocked byte) cells.old (page_write self.new) result cells.new }
     {
         let full = self.completes::<D>(status_bits);
         self.hold(byte);

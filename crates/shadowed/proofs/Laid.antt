@@ -10,7 +10,7 @@ use Rattle.shadowed.specs.Array.{fits, long}
 use Rattle.shadowed.specs.Halves.{pages_in, size_in, halves, behind, Left}
 
 -- two images and what lies behind them, as they lie in a buffer
-abbrev laid : Images → List ℕ → List ℕ
+abbrev pub laid : Images → List ℕ → List ℕ
 laid i rest = i.working ++ (i.kept ++ rest)
 
 -- the two images and the rest, cut out of a buffer at n and 2 × n

@@ -11,7 +11,11 @@ abbrev pub verdict_text : Bool → List ℕ
 verdict_text agree = cond agree (codes "which agrees") (codes "WHICH DIFFERS")
 
 -- as `one byte 00h: Python has E1F0, the library E1F0, which agrees`
-abbrev pub line_text : Vector → List ℕ
-line_text v =
+abbrev pub comparison_text : Vector → ℕ → List ℕ
+comparison_text v worked_out =
     v.what.now ++ (codes ": " ++ (source_text v.source ++ (codes " has " ++ (sum_text v.sum ++ (codes ", the library "
-    ++ (sum_text (sum_of (message v)) ++ (codes ", " ++ verdict_text (sum_of (message v) == v.sum))))))))
+    ++ (sum_text worked_out ++ (codes ", " ++ verdict_text (worked_out == v.sum))))))))
+
+-- the same, with the sum of the vector's message
+abbrev pub line_text : Vector → List ℕ
+line_text v = comparison_text v (sum_of (message v))

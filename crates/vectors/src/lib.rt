@@ -6,7 +6,7 @@
 
 ghost use Rattle.std.specs.Prelude.{◌≡◌, Some, Decides};
 ghost use Rattle.crc.specs.Sum.{sum_of};
-ghost use Rattle.vectors.specs.Line.{verdict_text, line_text};
+ghost use Rattle.vectors.specs.Line.{verdict_text, comparison_text, line_text};
 ghost use Rattle.vectors.specs.Message.{message};
 ghost use Rattle.vectors.specs.Source.{source_text};
 
@@ -98,11 +98,39 @@ impl Vector {
         register
     }
 
+    // Works the sum out, once, and sets it beside the source's.
+    pub fn compared(&self) -> Comparison
+        ensures vector { result.vector ≡ self.now }
+        ensures worked_out { result.worked_out ≡ sum_of (message self.now) }
+    {
+        Comparison {
+            vector: *self,
+            worked_out: self.worked_out(),
+        }
+    }
+
     // Whether the library and the source have the same sum.
     pub fn agrees(&self) -> bool
         ensures { Decides result (sum_of (message self.now) ≡ self.now.sum) }
     {
-        self.worked_out() == self.sum
+        self.compared().agrees()
+    }
+}
+
+// A vector, and the sum that the library worked out for it. Who prints it and then asks whether the two agree has it worked out
+// once.
+#[derive(Clone, Copy, Debug)]
+pub struct Comparison {
+    pub vector: Vector,
+    pub worked_out: u16,
+}
+
+impl Comparison {
+    // Whether the library and the source have the same sum.
+    pub fn agrees(&self) -> bool
+        ensures { Decides result (self.now.worked_out ≡ self.now.vector.sum) }
+    {
+        self.worked_out == self.vector.sum
     }
 }
 
@@ -118,8 +146,8 @@ fn verdict(agree: bool) -> &'static str
 }
 
 // The comparison, as a line.
-impl fmt::Display for Vector {
-    ghost output = { λ v. Some (line_text v) };
+impl fmt::Display for Comparison {
+    ghost output = { λ c. Some (comparison_text c.vector c.worked_out) };
 
     fn fmt<W: fmt::Write>(&self, f: &mut fmt::Formatter<W>) -> fmt::Result {
         let Vector {
@@ -127,8 +155,8 @@ impl fmt::Display for Vector {
             source,
             sum,
             ..
-        } = *self;
-        let worked_out = self.worked_out();
+        } = self.vector;
+        let worked_out = self.worked_out;
         let verdict = verdict(worked_out == sum);
         let theirs = Sum(sum);
         let ours = Sum(worked_out);
@@ -136,5 +164,15 @@ impl fmt::Display for Vector {
             f,
             "{what}: {source} has {theirs}, the library {ours}, {verdict}"
         )
+    }
+}
+
+// The comparison of its sum with the library's, as a line.
+impl fmt::Display for Vector {
+    ghost output = { λ v. Some (line_text v) };
+
+    fn fmt<W: fmt::Write>(&self, f: &mut fmt::Formatter<W>) -> fmt::Result {
+        let compared = self.compared();
+        write!(f, "{compared}")
     }
 }

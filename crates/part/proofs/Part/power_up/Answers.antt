@@ -6,16 +6,22 @@ use Rattle.part.specs.Whole.{whole}
 use Rattle.part.proofs.Part.power_up.Goals as goal
 
 pub returns-in-Ok : goal.returns-in-Ok
-returns-in-Ok g c = refused_serves g.met.D.Dialect.lawful (c.in-Ok.ensures.steps PowerUp)
+returns-in-Ok g c = record { served = refused_serves g.met.D.Dialect.lawful (c.in-Ok.ensures.steps PowerUp); cells = refl }
 
 pub returns-in-Err-PowerOff : goal.returns-in-Err-PowerOff
 returns-in-Err-PowerOff g c =
-    serves_by g.met.D.Dialect.lawful (powers_up (whole g.D.Dialect g.C.Cells c.args.self.now) (rw c.in-Err-PowerOff.field-0-is at c.in-Err-PowerOff.ensures))
-    (record { kind = refl; control = refl; answer = refl; drove = refl; images = refl })
+    record {
+      served = serves_by g.met.D.Dialect.lawful (powers_up (whole g.D.Dialect g.C.Cells c.args.self.now) (rw c.in-Err-PowerOff.field-0-is at c.in-Err-PowerOff.ensures))
+          (record { kind = refl; control = refl; answer = refl; drove = refl; images = refl });
+      cells = refl;
+    }
 
 pub returns-in-Err : goal.returns-in-Err
 returns-in-Err g c =
-    elim c.in-Err.ensures.1 [
-      | inl off ↦ absurd (let z = off.0 in search (rules, off.0))
-      | inr dead ↦ refused_serves g.met.D.Dialect.lawful dead.1
-    ]
+    record {
+      served = elim c.in-Err.ensures.1 [
+        | inl off ↦ absurd (let z = off.0 in search (rules, off.0))
+        | inr dead ↦ refused_serves g.met.D.Dialect.lawful dead.1
+      ];
+      cells = refl;
+    }

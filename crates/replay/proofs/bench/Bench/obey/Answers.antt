@@ -29,6 +29,6 @@ returns-in-PowerUp g c =
       answered c.power_up.result,
       (
         c.done-in-PowerUp.ensures,
-        rw (c.in-PowerUp.is, c.requires.0) (call_run power_up before after g.met.D.Dialect.lawful c.power_up.ensures refl refl refl),
+        rw (c.in-PowerUp.is, c.requires.0) (call_run power_up before after g.met.D.Dialect.lawful c.power_up.ensures.served refl refl refl),
       ),
     )

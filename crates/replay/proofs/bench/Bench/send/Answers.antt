@@ -28,7 +28,7 @@ loop-byte-preserved g c = record {
   made = (
     answered c.byte.result,
     byte_made c.args.self.now.held c.args.bytes.now c.loop-byte.byte-index c.loop-byte-test.true c.loop-byte.invariant.made.1
-        (rw c.loop-byte.invariant.level at c.byte.ensures) (rw (c.push_reserved.ensures.items, c.unwrap_or-on_the_line.ensures, undriven c.byte.result)),
+        c.byte.ensures (rw (c.push_reserved.ensures.items, c.unwrap_or-on_the_line.ensures, undriven c.byte.result)),
   );
   level = c.loop-byte.invariant.level;
   len = omega (arith, c.push_reserved.ensures.len);

@@ -3,7 +3,7 @@ use Rattle.std.proofs.lemmas.Result.{err_from_is_err_and}
 use Rattle.std.proofs.lemmas.Grind.{common_steps}
 use Rattle.runfile.specs.declared.fault.OpeningFault.TheVariants.{NoTable}
 use Rattle.runfile.specs.Numbers.{opening_fault_at}
-use Rattle.runfile.specs.Table.{count_of, pair_place, offset_of, length_of, end_of, spot}
+use Rattle.runfile.specs.Table.{count_of, pair_place, offset_of, length_of, end_of, spot, opening_fault}
 use Rattle.runfile.proofs.Opening.{passed, stopped, no_table, all_passed, earliest_next, all_left, checked_ok, checked_err}
 use Rattle.runfile.proofs.Pairs.{pair_is, found_of}
 use Rattle.runfile.proofs.reader.Reader.open.Goals as goal
@@ -48,4 +48,11 @@ invariant_of-result-clause-opens c =
     all_passed c.args.file.now c.loop-number.number past table.0 c.loop-number.invariant.1
 
 pub returns : goal.returns
-returns c = record { opens = search rules; over = refl; all = all_left c.args.file.now }
+returns c =
+    let opens : opening_fault c.args.file.now ≡ None = search rules in
+    let table = rw c.in_ok-count.ensures.ok_part at c.count.ensures in record {
+      opens = opens;
+      over = refl;
+      all = all_left c.args.file.now;
+      stands = record { opens = opens; over = refl; before = refl; counted = table.1.0; within = omega arith };
+    }
