@@ -61,8 +61,8 @@ impl<D: Dialect, C: Cells> Part<D, C> {
 
     // Brings the power back: the part wakes from page 0 on. Refused with 1 if it is dead, 6 if it is on; then nothing changes.
     pub fn power_up(&mut self) -> Result<(), Refusal>
-        ensures served { Served PowerUp (whole D.Dialect C.Cells self.old) (answered result) (None) (whole D.Dialect C.Cells self.new) }
         ensures cells { self.new.cells ≡ self.old.cells }
+        ensures served { Served PowerUp (whole D.Dialect C.Cells self.old) (answered result) (None) (whole D.Dialect C.Cells self.new) }
     {
         match self.ready() {
             Ok(_) => Err(Refusal::AlreadyOn),
